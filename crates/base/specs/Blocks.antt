@@ -1,0 +1,109 @@
+-- Runs of bytes: zeros, a copy, a comparison. Each loop's turn and end, with the premises as the code has them.
+use Prim.Native.Nat.{ℕ, zero, suc, _+_, _-_, _≤_, _<_, min}
+use mathlib.Core.Bool.{true, false}
+use mathlib.Core.Path.{_≡_, refl, ap, sym, _∙_}
+use mathlib.Core.List.{List, [], _∷_, _++_, append-nil}
+use native.Mathlib.Numerals.{add-one}
+use lib.ListN.{length, take, drop, getD, length-append, length-drop, set, replicate, length-replicate, replicate-append-replicate}
+use borrow.Author.Count.{below-more}
+use borrow.Author.Fill.{fill-more}
+use lib.Seq.{drop-length, take-all, take-length, take-append-seam, drop-append-add, ext-getD, paste, paste-zero, paste-suc}
+use native.Mathlib.Omega.{arith}
+use Rattle.base.specs.Tells.{Tells, tells-yes, tells-no}
+
+-- n zeros; shut, so that no long run is ever written out
+unfoldable pub zeros : ℕ → List ℕ
+zeros n = replicate n 0
+
+pub length-zeros : (n : ℕ) → length (zeros n) ≡ n
+unfolding zeros
+length-zeros n = length-replicate n 0
+
+pub zeros-append : (n m : ℕ) → zeros n ++ zeros m ≡ zeros (n + m)
+unfolding zeros
+zeros-append n m = replicate-append-replicate n m 0
+
+pub drop-zeros : (k n : ℕ) → drop k (zeros n) ≡ zeros (n - k)
+unfolding zeros
+drop-zeros zero n = let q : n - 0 ≡ n = omega arith in rw q
+drop-zeros (suc k) zero = let q : 0 - suc k ≡ 0 = omega arith in rw q
+drop-zeros (suc k) (suc n) = let q : suc n - suc k ≡ n - k = omega arith in rw q (drop-zeros k n)
+
+-- as `zero` leaves an array, whose length is known
+pub zeros-sized : (w : List ℕ) (m n : ℕ) → w ≡ zeros m → m ≡ n → w ≡ zeros n
+zeros-sized w m n e l = e ∙ ap zeros l
+
+-- dst with src written from `at` on, as much of it as fits
+unfoldable pub copied : List ℕ → ℕ → List ℕ → List ℕ
+copied dst at src = paste dst at src (min (length src) (length dst - at))
+
+-- `&xs[a..e]` is `take (e - a) (drop a xs)` to the checker; to the end, that is `drop a xs`
+pub part-tail : (xs : List ℕ) (a : ℕ) → take (length xs - a) (drop a xs) ≡ drop a xs
+part-tail xs a = take-all (length xs - a) (drop a xs) (simp length-drop (omega arith))
+
+pub zero-turn :
+    (w₀ w : List ℕ) (i : ℕ) → i < length w → length w ≡ length w₀ → w ≡ zeros i ++ drop i w₀ →
+    set w i 0 ≡ zeros (i + 1) ++ drop (i + 1) w₀
+unfolding zeros
+zero-turn w₀ w i l n e = ap (λ (k : List ℕ). set k i 0) e ∙ fill-more i 0 w₀ (omega arith)
+
+pub zero-end :
+    (w₀ w : List ℕ) (i : ℕ) → length w ≤ i → i ≤ length w₀ → length w ≡ length w₀ → w ≡ zeros i ++ drop i w₀ →
+    w ≡ zeros (length w₀)
+zero-end w₀ w i l u n e =
+    let q : i ≡ length w₀ = omega arith in
+    e ∙ rw (q, drop-length, append-nil)
+
+pub zero-start : (w : List ℕ) → w ≡ zeros 0 ++ drop 0 w
+unfolding zeros
+zero-start w = refl
+
+pub ruleset zeroing = (zero-start, zero-turn, zero-end)
+
+-- onto zeros behind other bytes
+pub copied-zeros : (a src : List ℕ) (k : ℕ) → length src ≤ k → copied (a ++ zeros k) (length a) src ≡ a ++ src ++ zeros (k - length src)
+unfolding copied
+copied-zeros a src k l =
+    let q : min (length src) (length (a ++ zeros k) - length a) ≡ length src =
+        omega (arith, length-append a (zeros k), length-zeros k)
+    in
+    rw (q, take-append-seam a (zeros k), take-length src, drop-append-add a (zeros k) (length src), drop-zeros)
+
+-- the start lies beyond the end
+pub copy-none : (dst : List ℕ) (at : ℕ) (src : List ℕ) → length dst < at → dst ≡ copied dst at src
+unfolding copied
+copy-none dst at src l = let q : min (length src) (length dst - at) ≡ 0 = omega arith in rw q (paste-zero dst at src)
+
+pub copy-turn :
+    (dst₀ dst src : List ℕ) (at n i : ℕ) → at ≤ length dst₀ → n ≤ length src → n ≤ length dst₀ - at → i < n → dst ≡ paste dst₀ at src i →
+    set dst (at + i) (getD src i 0) ≡ paste dst₀ at src (i + 1)
+copy-turn dst₀ dst src at n i g a b l e = rw (e, add-one i) (paste-suc dst₀ at src i 0 (omega arith) (omega arith))
+
+pub copy-end :
+    (dst₀ dst src : List ℕ) (at n i : ℕ) → n ≡ min (length src) (length dst₀ - at) → n ≤ i → i ≤ n → dst ≡ paste dst₀ at src i →
+    dst ≡ copied dst₀ at src
+unfolding copied
+copy-end dst₀ dst src at n i m l u e = let q : i ≡ min (length src) (length dst₀ - at) = omega arith in e ∙ rw q
+
+pub ruleset copying = (copy-none, copy-turn, copy-end)
+
+-- the first i bytes of both are the same
+pub record Alike (a b : List ℕ) (i : ℕ) : Type 0 where
+  pub at : (k : ℕ) → k < i → getD a k 0 ≡ getD b k 0
+
+pub alike-none : (a b : List ℕ) → Alike a b 0
+alike-none a b = record { at = λ k l. absurd (omega arith) }
+
+pub alike-more : (a b : List ℕ) (i : ℕ) → Alike a b i → getD a i 0 ≡ getD b i 0 → Alike a b (i + 1)
+alike-more a b i h e = record { at = below-more (λ k. getD a k 0 ≡ getD b k 0) i (h .at) e }
+
+pub same-end : (a b : List ℕ) (i : ℕ) → length a ≡ length b → length a ≤ i → Alike a b i → Tells (a ≡ b) true
+same-end a b i n l h = tells-yes (ext-getD 0 a b n (λ k m. h .at k (omega arith)))
+
+pub same-longer : (a b : List ℕ) → (length a ≡ length b → ⊥) → Tells (a ≡ b) false
+same-longer a b n = tells-no (λ e. n (ap length e))
+
+pub same-differ : (a b : List ℕ) (i : ℕ) → Alike a b i → (getD a i 0 ≡ getD b i 0 → ⊥) → Tells (a ≡ b) false
+same-differ a b i h n = tells-no (λ e. n (ap (λ (l : List ℕ). getD l i 0) e))
+
+pub ruleset comparing = (alike-none, alike-more, same-end, same-longer, same-differ)

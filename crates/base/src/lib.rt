@@ -1,0 +1,108 @@
+// Bytes and runs of bytes. No function asks anything of its caller: a read beyond the end gives 0, and a write there changes nothing.
+ghost use mathlib.Core.Path.{_≡_};
+ghost use Prim.Native.Nat.{_<_, min};
+ghost use lib.ListN.{length, set};
+ghost use Rattle.base.specs.Bytes.{byteAt, get16 as get16m, put16 as put16m};
+ghost use Rattle.base.specs.Blocks.{zeros, copied};
+ghost use Rattle.base.specs.Tells.{Tells};
+
+// A byte as a number to compute with.
+pub fn wide(x: u8) -> usize
+    ensures { λ r. ⌜ (r ≡ x) × (r < 256) ⌝ }
+{
+    x as usize
+}
+
+// The byte at `at`, 0 beyond the end.
+pub fn byte_at(b: &[u8], at: usize) -> usize
+    ensures { λ r. ⌜ (r ≡ byteAt (now (b .entry)) at) × (r < 256) ⌝ }
+{
+    if at < b.len() {
+        return wide(b[at]);
+    }
+    0
+}
+
+// Writes `v` at `at`, nothing beyond the end.
+pub fn put_byte(b: &mut [u8], at: usize, v: u8)
+    ensures { λ _. ⌜ now (b .exit) ≡ set (now (b .entry)) at v ⌝ }
+{
+    if at < b.len() {
+        b[at] = v;
+        return;
+    }
+}
+
+// The two-byte number at `at`, little-endian.
+pub fn get16(b: &[u8], at: usize) -> usize
+    ensures { λ r. ⌜ (r ≡ get16m (now (b .entry)) at) × (r < 65536) ⌝ }
+{
+    if at < b.len() {
+        let low = byte_at(b, at);
+        let high = byte_at(b, at + 1);
+        return low + 256 * high;
+    }
+    0
+}
+
+// Writes `v` as the two-byte number at `at`.
+pub fn put16(b: &mut [u8], at: usize, v: u16)
+    ensures { λ _. ⌜ now (b .exit) ≡ put16m (now (b .entry)) at v ⌝ }
+{
+    if at < b.len() {
+        put_byte(b, at, (v % 256) as u8);
+        put_byte(b, at + 1, (v / 256) as u8);
+        return;
+    }
+}
+
+pub fn zero(w: &mut [u8])
+    ensures { λ _. ⌜ now (w .exit) ≡ zeros (length (now (w .entry))) ⌝ }
+{
+    let mut i = 0;
+    while i < w.len() {
+        w[i] = 0;
+        i += 1;
+    }
+}
+
+fn least(a: usize, b: usize) -> usize
+    ensures { λ r. ⌜ r ≡ min a b ⌝ }
+{
+    if a < b {
+        return a;
+    }
+    b
+}
+
+// Writes `src` onto `dst` from `at` on, as much of it as fits.
+pub fn copy(dst: &mut [u8], at: usize, src: &[u8])
+    ensures { λ _. ⌜ now (dst .exit) ≡ copied (now (dst .entry)) at (now (src .entry)) ⌝ }
+{
+    if dst.len() < at {
+        return;
+    }
+    let n = least(src.len(), dst.len() - at);
+    let mut i = 0;
+    while i < n {
+        dst[at + i] = src[i];
+        i += 1;
+    }
+}
+
+// Whether the bytes are the same.
+pub fn same(a: &[u8], b: &[u8]) -> bool
+    ensures { λ r. ⌜ Tells (now (a .entry) ≡ now (b .entry)) r ⌝ }
+{
+    if a.len() != b.len() {
+        return false;
+    }
+    let mut i = 0;
+    while i < a.len() {
+        if a[i] != b[i] {
+            return false;
+        }
+        i += 1;
+    }
+    true
+}

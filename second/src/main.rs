@@ -1,0 +1,82 @@
+//! The second program: an independent implementation of the rules, written to
+//! be compared with the proved library. It uses the standard library alone:
+//!
+//! ```text
+//! rustc -O --edition 2021 second/src/main.rs -o second-program
+//! rustc -O --edition 2021 --test second/src/main.rs -o second-tests
+//! ```
+
+mod compare;
+mod damage;
+mod grammar;
+mod image;
+mod per_symbol;
+mod prepare;
+mod random;
+mod random_grammar;
+mod reference;
+mod reply;
+mod sets;
+mod show;
+mod symbol_set;
+mod tables;
+
+#[cfg(test)]
+mod enumeration;
+#[cfg(test)]
+mod samples;
+
+use std::error::Error;
+use std::io::{self, Read};
+use std::process::ExitCode;
+
+const USAGE: &str = "usage:
+  second show FILE|-                 the grammar that an image holds
+  second prepare FILE|-              the reply of prepare and the table bytes that are not 0
+  second images SEED COUNT PROGRAM   compare PROGRAM with `show -` on COUNT images";
+
+/// Exit status for a command that could not be carried out.
+const NOT_RUN: u8 = 2;
+
+fn main() -> ExitCode {
+    let arguments: Vec<String> = std::env::args().skip(1).collect();
+    let words: Vec<&str> = arguments.iter().map(String::as_str).collect();
+    run(&words).unwrap_or_else(|fault| {
+        eprintln!("{fault}");
+        ExitCode::from(NOT_RUN)
+    })
+}
+
+/// Carries out one command line.
+fn run(words: &[&str]) -> Result<ExitCode, Box<dyn Error>> {
+    match *words {
+        ["show", source] => {
+            print!("{}", show::grammar_text(&read_source(source)?));
+            Ok(ExitCode::SUCCESS)
+        }
+        ["prepare", source] => {
+            print!("{}", show::tables_text(&read_source(source)?));
+            Ok(ExitCode::SUCCESS)
+        }
+        ["images", seed, count, program] => {
+            let ask = |image: &[u8]| compare::ask_program(program, image);
+            let failed = compare::images(seed.parse()?, count.parse()?, ask, &mut io::stdout())?;
+            Ok(if failed == 0 {
+                ExitCode::SUCCESS
+            } else {
+                ExitCode::FAILURE
+            })
+        }
+        _ => Err(USAGE.into()),
+    }
+}
+
+/// The bytes of a file, or of standard input for `-`.
+fn read_source(source: &str) -> io::Result<Vec<u8>> {
+    if source != "-" {
+        return std::fs::read(source);
+    }
+    let mut bytes = Vec::new();
+    io::stdin().read_to_end(&mut bytes)?;
+    Ok(bytes)
+}

@@ -1,0 +1,80 @@
+//! Grammars for the tests.
+
+use crate::grammar::Grammar;
+use crate::image;
+use crate::reference::IMAGE;
+
+/// A grammar from its parts.
+pub fn grammar(t: u8, n: u8, start: u8, productions: &[(u8, &[u8])]) -> Grammar {
+    let productions = productions
+        .iter()
+        .map(|(left, body)| (*left, body.to_vec()))
+        .collect();
+    Grammar {
+        t,
+        n,
+        start,
+        productions,
+    }
+}
+
+/// The image of a grammar from its parts.
+pub fn image(t: u8, n: u8, start: u8, productions: &[(u8, &[u8])]) -> Vec<u8> {
+    image::records(&grammar(t, n, start, productions)).concat()
+}
+
+/// The reference grammar.
+pub fn reference() -> Grammar {
+    image::read(&IMAGE).expect("the reference image is good")
+}
+
+/// Figure 4 of source document 000. Terminals: 1 plus, 2 times, 3 id;
+/// nonterminals 4 E, 5 X, 6 T, 7 Y, 8 F.
+pub fn expressions() -> Grammar {
+    let productions: [(u8, &[u8]); 7] = [
+        (4, &[6, 5]),
+        (5, &[]),
+        (5, &[1, 4]),
+        (6, &[8, 7]),
+        (7, &[]),
+        (7, &[2, 6]),
+        (8, &[3]),
+    ];
+    grammar(3, 5, 4, &productions)
+}
+
+/// The largest LL(1) grammar: 31 terminals, 32 nonterminals, 128 productions.
+/// Each nonterminal has one production that leads to the next, the last one
+/// back to the first, and three that hold a terminal alone.
+pub fn largest() -> Grammar {
+    let (t, n) = (31, 32);
+    let next = |row: u8| t + 1 + (row + 1) % n;
+    let productions = (0..n)
+        .flat_map(|row| {
+            let left = t + 1 + row;
+            let ends = (1..=3).map(move |a| (left, vec![a]));
+            std::iter::once((left, vec![t, next(row)])).chain(ends)
+        })
+        .collect();
+    Grammar {
+        t,
+        n,
+        start: t + 1,
+        productions,
+    }
+}
+
+/// The longest stem: each of 32 nonterminals has the next as its only body,
+/// and the last has terminal 31.
+pub fn chain() -> Grammar {
+    let productions = (32..63)
+        .map(|left| (left, vec![left + 1]))
+        .chain([(63, vec![31])])
+        .collect();
+    Grammar {
+        t: 31,
+        n: 32,
+        start: 32,
+        productions,
+    }
+}

@@ -1,0 +1,94 @@
+//! What the commands print: lines of fields one space apart, in decimal, a
+//! newline at the end of each.
+
+use crate::grammar::Grammar;
+use crate::image;
+use crate::prepare::prepare;
+use crate::reply::Reply;
+
+/// The grammar of an image, or the refusal of it.
+pub fn grammar_text(image: &[u8]) -> String {
+    match image::read(image) {
+        Ok(grammar) => good_grammar(&grammar),
+        Err(offset) => refused(Reply::bad_record(offset)),
+    }
+}
+
+/// The reply of prepare and, if it accepts, a line with offset and value for
+/// each table byte that is not 0.
+pub fn tables_text(image: &[u8]) -> String {
+    match prepare(image) {
+        Ok(tables) => {
+            let used = tables.iter().enumerate().filter(|(_, &byte)| byte != 0);
+            let lines = used.map(|(offset, byte)| format!("{offset} {byte}\n"));
+            std::iter::once("accepted\n".to_string())
+                .chain(lines)
+                .collect()
+        }
+        Err(reply) => refused(reply),
+    }
+}
+
+/// A line for the head, then one for each production.
+fn good_grammar(grammar: &Grammar) -> String {
+    let Grammar {
+        t,
+        n,
+        start,
+        productions,
+    } = grammar;
+    let mut text = format!("grammar {t} {n} {start} {}\n", productions.len());
+    for (number, (left, body)) in grammar.numbered() {
+        text += &format!("{number} {left}");
+        body.iter().for_each(|symbol| text += &format!(" {symbol}"));
+        text += "\n";
+    }
+    text
+}
+
+fn refused(reply: Reply) -> String {
+    format!("refused {} {}\n", reply.number, reply.place)
+}
+
+#[cfg(test)]
+mod tests {
+    use super::*;
+    use crate::reference::IMAGE;
+
+    #[test]
+    fn the_reference_grammar_is_shown_line_by_line() {
+        let expected = "grammar 5 5 6 8\n\
+                        1 6 7 6\n\
+                        2 6\n\
+                        3 7 1 8 10 5\n\
+                        4 8 2 9\n\
+                        5 9 3 8\n\
+                        6 9\n\
+                        7 10 4 8\n\
+                        8 10\n";
+        assert_eq!(grammar_text(&IMAGE), expected);
+    }
+
+    #[test]
+    fn a_head_alone_is_shown_as_one_line() {
+        assert_eq!(grammar_text(&IMAGE[..5]), "grammar 5 5 6 0\n");
+    }
+
+    #[test]
+    fn a_bad_image_is_shown_with_its_offset() {
+        assert_eq!(grammar_text(&[]), "refused 1 0\n");
+        assert_eq!(grammar_text(&IMAGE[..48]), "refused 1 45\n");
+    }
+
+    #[test]
+    fn tables_are_shown_by_their_bytes_that_are_not_0() {
+        let text = tables_text(&IMAGE);
+        assert!(text.starts_with("accepted\n0 2\n1 1\n33 3\n"));
+        assert_eq!(text.lines().count(), 1 + 9 + 25);
+    }
+
+    #[test]
+    fn a_refusal_of_prepare_is_shown_with_number_and_place() {
+        assert_eq!(tables_text(&IMAGE[..5]), "refused 2 6\n");
+    }
+}
