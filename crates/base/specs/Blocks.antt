@@ -65,7 +65,7 @@ pub copied-zeros : (a src : List ℕ) (k : ℕ) → length src ≤ k → copied 
 unfolding copied
 copied-zeros a src k l =
     let q : min (length src) (length (a ++ zeros k) - length a) ≡ length src =
-        omega (arith, length-append a (zeros k), length-zeros k)
+    omega (arith, length-append a (zeros k), length-zeros k)
     in
     rw (q, take-append-seam a (zeros k), take-length src, drop-append-add a (zeros k) (length src), drop-zeros)
 

@@ -19,6 +19,9 @@ each-parts (x ∷ xs) (Each.cons p e) = let q = each-parts xs e in (Each.cons p 
 pub each-head : {A : Type 0} {P : A → Type 0} {x : A} {xs : List A} → Each P (x ∷ xs) → P x
 each-head (Each.cons p e) = p
 
+pub each-tail : {A : Type 0} {P : A → Type 0} {x : A} {xs : List A} → Each P (x ∷ xs) → Each P xs
+each-tail (Each.cons p e) = e
+
 pub each-map : {A : Type 0} {P Q : A → Type 0} {xs : List A} → ((x : A) → P x → Q x) → Each P xs → Each Q xs
 each-map f Each.nil = Each.nil
 each-map f (Each.cons {x = x} p e) = Each.cons (f x p) (each-map f e)

@@ -11,3 +11,6 @@ pub mod Images
 pub mod Rows
 pub mod Reading
 pub mod Outcome
+pub mod Formed
+pub mod Reference
+pub mod Decided

@@ -58,7 +58,7 @@ module _ (bytes : List ℕ) (t n s : ℕ) (rest rows : List ℕ) (count offset :
   pub reads-end : length rest ≡ 0 → Reads bytes (GrammarRead.Good (record { t = t; n = n; start = s; count = count })) rows
   reads-end e =
       let i : Image bytes (readSoFar t n s (r .got)) =
-          record { formed = r .begins .formed; is = r .begins .is ∙ ap (λ (u : List ℕ). imageOf (readSoFar t n s (r .got)) ++ u) (empty rest e) ∙ append-nil (imageOf (readSoFar t n s (r .got))) }
+      record { formed = r .begins .formed; is = r .begins .is ∙ ap (λ (u : List ℕ). imageOf (readSoFar t n s (r .got)) ++ u) (empty rest e) ∙ append-nil (imageOf (readSoFar t n s (r .got))) }
       in
       rw (r .laid, r .counted) (reads-good (readSoFar t n s (r .got)) i)
 

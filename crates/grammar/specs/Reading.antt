@@ -142,10 +142,10 @@ module _ (t n : ℕ) (b : List ℕ) where
       let P : Production = record { left = left; body = bodyPart k } in
       let size : length (productionBytes P) ≡ 4 + k = omega (arith, long) in
       let is : b ≡ productionBytes P ++ drop (4 + k - 4) (drop 4 b) =
-          cut4 b l
-          ∙ ap₂ (λ (x y : ℕ). x ∷ y ∷ getD b 2 0 ∷ getD b 3 0 ∷ drop 4 b) m o
-          ∙ ap₂ (λ (x y : ℕ). recordMark ∷ productionMark ∷ x ∷ y ∷ drop 4 b) (sym q) (sym w ∙ sym long)
-          ∙ ap (λ (u : List ℕ). recordMark ∷ productionMark ∷ left ∷ length (bodyPart k) ∷ u) (sym (take-append-drop (4 + k - 4) (drop 4 b)))
+      cut4 b l
+      ∙ ap₂ (λ (x y : ℕ). x ∷ y ∷ getD b 2 0 ∷ getD b 3 0 ∷ drop 4 b) m o
+      ∙ ap₂ (λ (x y : ℕ). recordMark ∷ productionMark ∷ x ∷ y ∷ drop 4 b) (sym q) (sym w ∙ sym long)
+      ∙ ap (λ (u : List ℕ). recordMark ∷ productionMark ∷ left ∷ length (bodyPart k) ∷ u) (sym (take-append-drop (4 + k - 4) (drop 4 b)))
       in
       rw (← size) (starts P (drop (4 + k - 4) (drop 4 b)) (record { left = (g, h); short = omega (arith, long); symbols = e .yes y }) is)
 

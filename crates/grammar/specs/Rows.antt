@@ -1,10 +1,10 @@
 -- How the reader leaves the productions for later code: rows of fixed width, each a left side, a body length, the body, and zeros.
 -- A row is read without trusting it, so that any bytes are the rows of some grammar; the rows of a grammar within the limits are those of that grammar alone.
 use mathlib.Core.Path.{_≡_, refl, ap, sym, _∙_}
-use Prim.Native.Nat.{ℕ, zero, suc, _+_, _-_, _*_, _%_, _≤_, _<_}
+use Prim.Native.Nat.{ℕ, zero, suc, _+_, _-_, _*_, _/_, _%_, _≤_, _<_}
 use mathlib.Core.List.{List, [], _∷_, _++_, map, append-assoc, append-nil}
-use lib.ListN.{length, take, drop, getD, length-append}
-use lib.Seq.{append-snoc, take-at, drop-at, getD-drop, drop-drop}
+use lib.ListN.{length, take, drop, getD, length-append, length-take, drop-of-length-le, List·getD-eq-default}
+use lib.Seq.{append-snoc, take-at, drop-at, getD-take, getD-drop, drop-drop}
 use native.Mathlib.Omega.{arith}
 use Rattle.base.specs.Blocks.{zeros, length-zeros, zeros-append, copied, copied-zeros}
 use Rattle.grammar.specs.Limits.{maxTerminals, maxNonterminals, maxProductions, maxBody}
@@ -162,9 +162,9 @@ module _ {t n : ℕ} (small : t + n < symbolSpace) where
   productions-in Qs (P ∷ more) zs q (Each.cons a e) =
       let l : length Qs + 1 ≡ length (Qs ++ (P ∷ [])) = omega (arith, length-append Qs (P ∷ [])) in
       let rest : productionsFrom (rowsBytes (Qs ++ P ∷ more) ++ zs) (length more) (length Qs + 1) ≡ more =
-          ap (productionsFrom (rowsBytes (Qs ++ P ∷ more) ++ zs) (length more)) l
-          ∙ ap (λ (Rs : List Production). productionsFrom (rowsBytes Rs ++ zs) (length more) (length (Qs ++ (P ∷ [])))) (sym (append-snoc Qs P more))
-          ∙ productions-in (Qs ++ (P ∷ [])) more zs (each-join q (Each.cons a Each.nil)) e
+      ap (productionsFrom (rowsBytes (Qs ++ P ∷ more) ++ zs) (length more)) l
+      ∙ ap (λ (Rs : List Production). productionsFrom (rowsBytes Rs ++ zs) (length more) (length (Qs ++ (P ∷ [])))) (sym (append-snoc Qs P more))
+      ∙ productions-in (Qs ++ (P ∷ [])) more zs (each-join q (Each.cons a Each.nil)) e
       in
       λ i. production-in (rowsBytes (Qs ++ P ∷ more) ++ zs) (length Qs) P a (row-in Qs P more zs q a) i ∷ rest i
 
@@ -175,3 +175,48 @@ rows-grammar G f =
     let small : G .t + G .n < symbolSpace = omega (arith, f .head .terminals .1, f .head .nonterminals .1) in
     let e = productions-in small [] (G .productions) (zeros (rowsSize - length (G .productions) * rowSize)) Each.nil (f .each) in
     λ i. record { t = G .t; n = G .n; start = G .start; productions = e i }
+
+-- ---- reading a row, as the code does it
+
+module _ (rows : List ℕ) (p : ℕ) where
+  row-byte : (j : ℕ) → j < rowSize → getD (rowAt rows p) j 0 ≡ getD rows (p * rowSize + j) 0
+  row-byte j l = getD-take rowSize (drop (p * rowSize) rows) j 0 l ∙ getD-drop (p * rowSize) rows j 0
+
+  row-none : (j : ℕ) → length rows / rowSize < p → 0 ≡ getD (rowAt rows p) j 0
+  row-none j l =
+      let q : drop (p * rowSize) rows ≡ [] = drop-of-length-le rows {i = p * rowSize} (omega arith) in
+      sym (ap (λ (u : List ℕ). getD (take rowSize u) j 0) q)
+
+  pub left-in : (b : ℕ) → b ≡ getD rows (p * rowSize) 0 → b % symbolSpace ≡ leftAt rows p
+  unfolding leftAt
+  left-in b e = let q : p * rowSize + 0 ≡ p * rowSize = omega arith in ap (λ (x : ℕ). x % symbolSpace) (e ∙ sym (row-byte 0 (omega arith) ∙ ap (λ (k : ℕ). getD rows k 0) q))
+
+  pub left-out : length rows / rowSize < p → 0 ≡ leftAt rows p
+  unfolding leftAt
+  left-out l = omega (arith, row-none 0 l)
+
+  pub length-in : (b : ℕ) → b ≡ getD rows (p * rowSize + 1) 0 → b % bodySpace ≡ lengthAt rows p
+  unfolding lengthAt
+  length-in b e = ap (λ (x : ℕ). x % bodySpace) (e ∙ sym (row-byte 1 (omega arith)))
+
+  pub length-out : length rows / rowSize < p → 0 ≡ lengthAt rows p
+  unfolding lengthAt
+  length-out l = omega (arith, row-none 1 l)
+
+  pub symbol-in : (b j : ℕ) → j < maxBody → b ≡ getD rows (p * rowSize + 2 + j) 0 → b % symbolSpace ≡ symbolAt rows p j
+  unfolding symbolAt
+  symbol-in b j l e =
+      let q : p * rowSize + (2 + j) ≡ p * rowSize + 2 + j = omega arith in
+      ap (λ (x : ℕ). x % symbolSpace) (e ∙ sym (row-byte (2 + j) (omega arith) ∙ ap (λ (k : ℕ). getD rows k 0) q))
+
+  pub symbol-out : (j : ℕ) → length rows / rowSize < p → 0 ≡ symbolAt rows p j
+  unfolding symbolAt
+  symbol-out j l = omega (arith, row-none (2 + j) l)
+
+  pub symbol-past : (j : ℕ) → maxBody ≤ j → 0 ≡ symbolAt rows p j
+  unfolding symbolAt
+  symbol-past j l =
+      let q : getD (rowAt rows p) (2 + j) 0 ≡ 0 = List·getD-eq-default (rowAt rows p) 0 {n = 2 + j} (omega (arith, length-take rowSize (drop (p * rowSize) rows))) in
+      omega arith
+
+pub ruleset rowReads = (left-in, left-out, length-in, length-out, symbol-in, symbol-out, symbol-past)

@@ -7,25 +7,37 @@ ghost use Rattle.base.specs.Blocks.{zeros};
 ghost use Rattle.grammar.specs.Limits.{maxTerminals, maxNonterminals};
 ghost use Rattle.grammar.specs.Grammar.{AllowedHead};
 ghost use Rattle.grammar.specs.Image.{HeadFirst};
-ghost use Rattle.grammar.specs.Rows.{rowsSize, leftAt, lengthAt, symbolAt};
+ghost use Rattle.grammar.specs.Rows.{rowsSize, symbolSpace, bodySpace, rowsOf, leftAt, lengthAt, symbolAt};
 ghost use Rattle.grammar.specs.Reading.{Headed, Symbols, Starts};
-ghost use Rattle.grammar.specs.Outcome.{Reads};
+ghost use Rattle.grammar.specs.Outcome.{headOf, Reads};
+ghost use Rattle.grammar.specs.Reference.{reference};
 
 // Document 01's limits, marks and record sizes.
 pub const MAX_TERMINALS: usize = 31;
+
 pub const MAX_NONTERMINALS: usize = 32;
+
 pub const MAX_PRODUCTIONS: usize = 128;
+
 pub const MAX_BODY: usize = 8;
+
 const RECORD_MARK: u8 = 0x47;
+
 const HEAD_MARK: u8 = 0x48;
+
 const PRODUCTION_MARK: u8 = 0x50;
+
 const HEAD_SIZE: usize = 5;
+
 const PREFIX_SIZE: usize = 4;
 
 // A row is a left side, a body length, the body, and zeros.
 pub const ROW_SIZE: usize = 10;
+
 pub const ROWS_SIZE: usize = 1280;
+
 pub const SYMBOL_SPACE: usize = 64;
+
 pub const BODY_SPACE: usize = 9;
 
 // What a good image's head says, and how many productions follow it.
@@ -186,4 +198,100 @@ pub fn read_grammar(image: &[u8], rows: &mut [u8; ROWS_SIZE]) -> GrammarRead
         return read_productions(image, t, n, s, rows);
     }
     GrammarRead::Bad(0)
+}
+
+// The left side of the production in row p, counted from 0.
+pub fn left_at(rows: &[u8], p: usize) -> usize
+    ensures { λ r. ⌜ (r ≡ leftAt (now (rows .entry)) p) × (r < symbolSpace) ⌝ }
+{
+    if p <= rows.len() / ROW_SIZE {
+        let b = base::byte_at(rows, p * ROW_SIZE);
+        return b % SYMBOL_SPACE;
+    }
+    0
+}
+
+// The length of its body.
+pub fn length_at(rows: &[u8], p: usize) -> usize
+    ensures { λ r. ⌜ (r ≡ lengthAt (now (rows .entry)) p) × (r < bodySpace) ⌝ }
+{
+    if p <= rows.len() / ROW_SIZE {
+        let b = base::byte_at(rows, p * ROW_SIZE + 1);
+        return b % BODY_SPACE;
+    }
+    0
+}
+
+// Symbol j of its body.
+pub fn symbol_at(rows: &[u8], p: usize, j: usize) -> usize
+    ensures { λ r. ⌜ (r ≡ symbolAt (now (rows .entry)) p j) × (r < symbolSpace) ⌝ }
+{
+    if rows.len() / ROW_SIZE < p {
+        return 0;
+    }
+    if MAX_BODY <= j {
+        return 0;
+    }
+    let b = base::byte_at(rows, p * ROW_SIZE + 2 + j);
+    b % SYMBOL_SPACE
+}
+
+// "The reference grammar is built in as a constant table of 49 bytes".
+pub const REFERENCE: [u8; 49] = [
+    0x47,
+    0x48,
+    0x05,
+    0x05,
+    0x06,
+    0x47,
+    0x50,
+    0x06,
+    0x02,
+    0x07,
+    0x06,
+    0x47,
+    0x50,
+    0x06,
+    0x00,
+    0x47,
+    0x50,
+    0x07,
+    0x04,
+    0x01,
+    0x08,
+    0x0A,
+    0x05,
+    0x47,
+    0x50,
+    0x08,
+    0x02,
+    0x02,
+    0x09,
+    0x47,
+    0x50,
+    0x09,
+    0x02,
+    0x03,
+    0x08,
+    0x47,
+    0x50,
+    0x09,
+    0x00,
+    0x47,
+    0x50,
+    0x0A,
+    0x02,
+    0x04,
+    0x08,
+    0x47,
+    0x50,
+    0x0A,
+    0x00,
+];
+
+// The reference grammar, by the same reader as any lent image.
+pub fn read_reference(rows: &mut [u8; ROWS_SIZE]) -> GrammarRead
+    ensures { λ r. ⌜ (r ≡ GrammarRead.Good (headOf reference)) × (now (rows .exit) ≡ rowsOf (reference .productions)) ⌝ }
+{
+    read_grammar(&REFERENCE, rows)
 }
