@@ -58,8 +58,9 @@ fn write_case(
 }
 
 /// What a program prints for an image on its standard input.
-pub fn ask_program(program: &str, image: &[u8]) -> io::Result<Vec<u8>> {
+pub fn ask_program(program: &str, arguments: &[&str], image: &[u8]) -> io::Result<Vec<u8>> {
     let mut child = Command::new(program)
+        .args(arguments)
         .stdin(Stdio::piped())
         .stdout(Stdio::piped())
         .spawn()?;
@@ -122,6 +123,6 @@ mod tests {
 
     #[test]
     fn a_program_that_is_not_there_is_an_error() {
-        assert!(ask_program("no-such-program", &[]).is_err());
+        assert!(ask_program("no-such-program", &[], &[]).is_err());
     }
 }

@@ -33,7 +33,8 @@ use std::process::ExitCode;
 const USAGE: &str = "usage:
   second show FILE|-                 the grammar that an image holds
   second prepare FILE|-              the reply of prepare and the table bytes that are not 0
-  second images SEED COUNT PROGRAM   compare PROGRAM with `show -` on COUNT images";
+  second images SEED COUNT PROGRAM [ARGUMENT ..]
+                                     compare PROGRAM with `show -` on COUNT images";
 
 /// Exit status for a command that could not be carried out.
 const NOT_RUN: u8 = 2;
@@ -58,8 +59,8 @@ fn run(words: &[&str]) -> Result<ExitCode, Box<dyn Error>> {
             print!("{}", show::tables_text(&read_source(source)?));
             Ok(ExitCode::SUCCESS)
         }
-        ["images", seed, count, program] => {
-            let ask = |image: &[u8]| compare::ask_program(program, image);
+        ["images", seed, count, program, ref arguments @ ..] => {
+            let ask = |image: &[u8]| compare::ask_program(program, arguments, image);
             let failed = compare::images(seed.parse()?, count.parse()?, ask, &mut io::stdout())?;
             Ok(if failed == 0 {
                 ExitCode::SUCCESS

@@ -1,5 +1,5 @@
-//! Random grammars whose images are good: small ones, middling ones, and ones
-//! at the limits.
+//! Random grammars whose images are good: small ones, middling ones, ones at
+//! the limits, and ones that prepare often accepts.
 
 use crate::grammar::{
     Grammar, Production, MAX_BODY, MAX_NONTERMINALS, MAX_PRODUCTIONS, MAX_TERMINALS,
@@ -9,7 +9,7 @@ use std::ops::RangeInclusive;
 
 /// A random grammar of any size.
 pub fn any(random: &mut Random) -> Grammar {
-    random.one_of(&[small, middling, at_limits])(random)
+    random.one_of(&[small, middling, at_limits, layered])(random)
 }
 
 /// A grammar of a few symbols and productions.
@@ -36,6 +36,44 @@ fn at_limits(random: &mut Random) -> Grammar {
     let productions = random.one_of(&[0, 1, MAX_PRODUCTIONS - 1, MAX_PRODUCTIONS]);
     let shortest = random.one_of(&[0, MAX_BODY]);
     of_size(random, t, n, productions, shortest..=MAX_BODY)
+}
+
+/// A grammar that prepare often accepts: each nonterminal leads to the next
+/// one, and no body begins with its left side or a nonterminal before that.
+pub fn layered(random: &mut Random) -> Grammar {
+    let (t, n) = (random.between(3, 8), random.between(2, 6));
+    let mut productions = Vec::new();
+    for left in t + 1..=t + n {
+        let mut bodies: Vec<Vec<u8>> = (0..=random.below(3))
+            .map(|_| layered_body(random, t, n, left))
+            .collect();
+        if left < t + n {
+            bodies[0].push(left + 1);
+        }
+        productions.extend(bodies.into_iter().map(|body| (left, body)));
+    }
+    Grammar {
+        t,
+        n,
+        start: t + 1,
+        productions,
+    }
+}
+
+/// No symbols, or a terminal or later nonterminal and up to two of any kind.
+fn layered_body(random: &mut Random, t: u8, n: u8, left: u8) -> Vec<u8> {
+    if random.once_in(4) {
+        return Vec::new();
+    }
+    let terminal = random.between(1, t);
+    let later = random.between(left, t + n);
+    let first = if later == left || random.once_in(2) {
+        terminal
+    } else {
+        later
+    };
+    let rest = (0..random.below(3)).map(|_| random.between(1, t + n));
+    std::iter::once(first).chain(rest).collect()
 }
 
 fn of_size(

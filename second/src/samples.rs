@@ -43,9 +43,9 @@ pub fn expressions() -> Grammar {
     grammar(3, 5, 4, &productions)
 }
 
-/// The largest LL(1) grammar: 31 terminals, 32 nonterminals, 128 productions.
-/// Each nonterminal has one production that leads to the next, the last one
-/// back to the first, and three that hold a terminal alone.
+/// An LL(1) grammar of 31 terminals, 32 nonterminals and 128 productions. Each
+/// nonterminal has one production that leads to the next, the last one back to
+/// the first, and three that hold a terminal alone.
 pub fn largest() -> Grammar {
     let (t, n) = (31, 32);
     let next = |row: u8| t + 1 + (row + 1) % n;

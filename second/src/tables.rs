@@ -96,18 +96,16 @@ struct Stems {
 }
 
 impl Stems {
-    /// Below a nonterminal stands the first symbol of one of its bodies that
-    /// has a in its FIRST and nothing but nullable symbols before it.
+    /// Below a nonterminal stands the symbol of one of its bodies that has a
+    /// in its FIRST and nothing but nullable symbols before it. The grammar
+    /// being LL(1), there is only one.
     fn of(grammar: &Grammar, sets: &Sets) -> Stems {
         let mut below = grammar.for_each_symbol([0; COLUMNS]);
         for (left, body) in &grammar.productions {
-            let mut passed = SymbolSet::EMPTY;
             for &symbol in body {
-                let first = sets.first[symbol];
-                for a in first.without(passed).symbols() {
+                for a in sets.first[symbol].symbols() {
                     below[*left][usize::from(a)] = symbol;
                 }
-                passed.add_all(first);
                 if !sets.nullable.contains(symbol) {
                     break;
                 }

@@ -82,13 +82,15 @@ fn example_b_has_four_break_points() {
 }
 
 #[test]
-fn the_tables_are_33792_bytes_and_begin_with_row_0() {
-    let prepared = Prepared::of(samples::reference());
-    assert_eq!(prepared.bytes.len(), 33_792);
-    assert_eq!(prepared.bytes[..6], [2, 1, 0, 0, 0, 0]);
-    assert_eq!(prepared.bytes[32..34], [0, 3]);
-    assert_eq!(prepared.bytes[1_024..1_026], [0, BOOK]);
-    assert_eq!(prepared.bytes[1_024 + 32 * 32 + 1], RULE);
+fn the_entries_stand_at_their_bytes() {
+    let bytes = Prepared::of(samples::reference()).bytes;
+    assert_eq!(bytes.len(), 33_792);
+    assert_eq!(bytes[..3], [2, 1, 0]);
+    assert_eq!(bytes[32..35], [0, 3, 0]);
+    assert_eq!(bytes[1_024..1_027], [0, BOOK, 0]);
+    let (rest, bar) = (3, 4);
+    assert_eq!(bytes[1_024 + (rest * 32 + bar) * 32 + 4], BAR);
+    assert_eq!(bytes[1_024 + (bar * 32 + rest) * 32 + 4], 0);
 }
 
 #[test]
@@ -200,15 +202,21 @@ fn slow_break_point(grammar: &Grammar, sets: &Sets, m: u8, n: u8, a: u8) -> u8 {
     }
 }
 
-/// Some small random grammars that prepare accepts.
+/// The small random grammars of one seed that prepare accepts.
 fn accepted_grammars() -> Vec<(Grammar, Sets)> {
-    let grammars = (0..20_000).map(|case| random_grammar::small(&mut Random::of_case(4, case)));
-    grammars
-        .map(|grammar| (Sets::of(&grammar), grammar))
-        .filter(|(sets, grammar)| sets.lowest_useless(grammar).is_none())
-        .filter(|(sets, grammar)| lowest_conflict(grammar, sets).is_none())
-        .map(|(sets, grammar)| (grammar, sets))
-        .collect()
+    let accepted = |case| {
+        let grammar = random_grammar::layered(&mut Random::of_case(4, case));
+        let sets = Sets::of(&grammar);
+        let useless = sets.lowest_useless(&grammar);
+        let fault = useless.or_else(|| lowest_conflict(&grammar, &sets));
+        fault.is_none().then_some((grammar, sets))
+    };
+    (0..20_000).filter_map(accepted).collect()
+}
+
+#[test]
+fn many_random_grammars_are_accepted() {
+    assert!(accepted_grammars().len() > 1_000);
 }
 
 #[test]
@@ -228,13 +236,7 @@ fn a_stem_is_the_only_path_to_its_terminal() {
 
 #[test]
 fn break_points_of_random_grammars_follow_from_the_paths() {
-    let grammars = accepted_grammars();
-    assert!(
-        grammars.len() > 300,
-        "only {} random grammars are accepted",
-        grammars.len()
-    );
-    for (grammar, sets) in grammars {
+    for (grammar, sets) in accepted_grammars() {
         let prepared = Prepared::of(grammar);
         let grammar = &prepared.grammar;
         for m in grammar.nonterminals() {
