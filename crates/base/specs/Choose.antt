@@ -1,11 +1,8 @@
 -- A choice by a test that computes only the branch taken. It is shut, so that antt finds the arguments of its laws.
 -- Models are written with it; `search ways depth 20` under `unfolding MODEL` finds the way that the code's tests take.
-use Prim.Native.Nat.{ℕ, _-_}
+use Prim.Native.Nat.{ℕ}
 use mathlib.Core.Bool.{Bool, true, false}
 use mathlib.Core.Path.{_≡_, refl}
-use mathlib.Core.List.{List}
-use lib.ListN.{length, take, drop, length-drop}
-use lib.Seq.{take-all}
 use native.Mathlib.Omega.{arith}
 use borrow.Author.Tests.{lt-ltb, le-ltb, le-leb, lt-leb, eq-eqb, ne-eqb}
 

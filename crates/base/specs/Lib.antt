@@ -2,5 +2,6 @@
 pub mod Choose
 pub mod Loop
 pub mod Tells
+pub mod Bits
 pub mod Bytes
 pub mod Blocks

@@ -1,6 +1,6 @@
 -- One model for every loop that counts up by one, with the four laws that its code's proof cites.
 use Prim.Native.Nat.{ℕ, zero, suc, _+_, _-_, _≤_, _<_}
-use mathlib.Core.Path.{_≡_, refl, sym, _∙_}
+use mathlib.Core.Path.{_≡_, sym, _∙_}
 use native.Mathlib.Omega.{arith}
 
 -- what a turn of a loop does: it goes on at a state, or it leaves with a result

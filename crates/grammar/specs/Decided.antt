@@ -1,19 +1,18 @@
 -- Every image has an outcome: it is well formed, or it has a first bad offset. With `Images` and `Outcome`: exactly one.
-use mathlib.Core.Path.{_≡_, refl}
+use mathlib.Core.Path.{refl}
 use mathlib.Core.Bool.{Bool, true, false}
 use mathlib.Core.Logic.{_⊎_, inl, inr, by-cases}
-use Prim.Native.Nat.{ℕ, zero, suc, _+_, _-_, _*_, _≤_, _<_}
+use Prim.Native.Nat.{ℕ, zero, suc, _+_, _-_, _≤_, _<_}
 use mathlib.Core.List.{List, [], _∷_}
 use lib.ListN.{length, take, drop, getD}
 use native.Mathlib.Decide.{ℕ-discrete, decLt, decLe}
 use native.Mathlib.Omega.{arith}
 use Rattle.base.specs.Tells.{Tells, tells-yes, tells-no}
-use Rattle.base.specs.Blocks.{zeros, copied}
+use Rattle.base.specs.Blocks.{zeros}
 use Rattle.grammar.specs.Limits.{maxTerminals, maxNonterminals, maxProductions, maxBody, recordMark, headMark, productionMark, headSize, prefixSize}
 use Rattle.grammar.specs.Each.{Each, each-head, each-tail}
 use Rattle.grammar.specs.Grammar.{Grammar, AllowedHead}
 use Rattle.grammar.specs.Image.{Image, HeadFirst, Bad}
-use Rattle.grammar.specs.Rows.{rowSize, rowsSize}
 use Rattle.grammar.specs.Reading.{head-short, head-mark, head-mark2, head-known, headed, Symbols, Starts, starts-short, starts-mark, starts-mark2, starts-low, starts-high, starts-long, starts-cut, starts-symbols, starts-good, Reading, reading-start, reading-more}
 use Rattle.grammar.specs.Outcome.{Reads, reads-good, reads-bad, reads-headless, reads-full, reads-stuck, reads-end}
 use Rattle.grammar.specs.declared.GrammarRead.{GrammarRead}
@@ -102,7 +101,7 @@ read-some bytes = go (head-told bytes)
     go (true, h) = read-on maxProductions (reading-start bytes _ _ _ _ (headed bytes _ _ _ true h refl refl refl refl) refl) (omega arith) (omega arith)
     go (false, h) = (_, _, reads-headless bytes _ false h refl refl)
 
--- (c) an image is well formed, or has a first bad offset
+-- an image is well formed, or has a first bad offset
 pub image-or-bad : (bytes : List ℕ) → ((G : Grammar) × Image bytes G) ⊎ ((k : ℕ) × Bad bytes k)
 image-or-bad bytes = let q = read-some bytes in go (q .2)
   where

@@ -1,8 +1,9 @@
 -- Derivation by rewriting, and what document 01 says by it of a grammar's symbols: "FIRST and FOLLOW as usual", which nonterminals are useless.
-use mathlib.Core.Path.{_≡_}
+-- A step asks only for a production; that left sides are nonterminals is `WellFormed`'s business.
 use mathlib.Core.Logic.{_⊎_}
-use Prim.Native.Nat.{ℕ}
+use Prim.Native.Nat.{ℕ, _<_}
 use mathlib.Core.List.{List, [], _∷_, _++_}
+use Rattle.grammar.specs.Limits.{endMark}
 use Rattle.grammar.specs.Each.{Each}
 use Rattle.grammar.specs.Grammar.{Grammar, Rule, Terminal, Nonterminal}
 
@@ -24,10 +25,10 @@ abbrev pub First : Grammar → ℕ → List ℕ → Type 0
 First G a xs = Terminal G a × ((β : List ℕ) × Steps G xs (a ∷ β))
 
 -- FOLLOW: the terminal a stands behind M in a string that the start symbol derives;
--- the end mark 0, where M ends such a string. "FOLLOW of the start symbol also holds the end mark": no step is taken
+-- the end mark, where M ends such a string. "FOLLOW of the start symbol also holds the end mark": no step is taken
 pub data Follow (G : Grammar) (M : ℕ) : ℕ → Type 0 where
   inside : {a : ℕ} (α β : List ℕ) → Terminal G a → Steps G (G .start ∷ []) (α ++ M ∷ a ∷ β) → Follow G M a
-  ending : (α : List ℕ) → Steps G (G .start ∷ []) (α ++ M ∷ []) → Follow G M 0
+  ending : (α : List ℕ) → Steps G (G .start ∷ []) (α ++ M ∷ []) → Follow G M endMark
 
 -- X derives a "terminal string (the empty one counts)"
 abbrev pub Productive : Grammar → ℕ → Type 0
@@ -41,3 +42,8 @@ Reachable G X = (α β : List ℕ) × Steps G (G .start ∷ []) (α ++ X ∷ β)
 pub record Useless (G : Grammar) (M : ℕ) : Type 0 where
   pub nonterminal : Nonterminal G M
   pub fault : (Productive G M → ⊥) ⊎ (Reachable G M → ⊥)
+
+-- a reply's place: the lowest number of which P holds
+pub record Lowest (P : ℕ → Type 0) (M : ℕ) : Type 0 where
+  pub holds : P M
+  pub first : (N : ℕ) → N < M → P N → ⊥

@@ -6,10 +6,10 @@ use mathlib.Core.List.{List, [], _∷_}
 use lib.ListN.{length}
 use lib.Dec.{leb}
 use borrow.Author.Tests.{leb-true}
-use Rattle.base.specs.Choose.{choose, choose-of, never}
-use Rattle.grammar.specs.Limits.{maxTerminals, maxNonterminals, maxProductions, maxBody}
+use Rattle.base.specs.Choose.{choose, never}
+use Rattle.grammar.specs.Limits.{maxProductions, maxBody}
 use Rattle.grammar.specs.Each.{Each}
-use Rattle.grammar.specs.Grammar.{Production, Grammar, SymbolOf, AllowedHead, Allowed, WellFormed}
+use Rattle.grammar.specs.Grammar.{Production, Grammar, AllowedHead, Allowed, WellFormed}
 
 unfoldable pub and : Bool → Bool → Bool
 and a b = choose a (λ _. b) (λ _. false)

@@ -48,7 +48,7 @@ pub record Allowed (t n : ℕ) (P : Production) : Type 0 where
   pub short : length (P .body) ≤ maxBody
   pub symbols : Each (SymbolOf t n) (P .body)
 
--- a grammar that has an image
+-- a grammar none of whose records is bad
 pub record WellFormed (G : Grammar) : Type 0 where
   pub head : AllowedHead (G .t) (G .n) (G .start)
   pub few : length (G .productions) ≤ maxProductions

@@ -19,16 +19,16 @@ abbrev pub productionsBytes : List Production → List ℕ
 productionsBytes [] = []
 productionsBytes (P ∷ Ps) = productionBytes P ++ productionsBytes Ps
 
--- the head, then the productions
+-- "The head must come first and only once", then the productions
 abbrev pub imageOf : Grammar → List ℕ
 imageOf G = headBytes (G .t) (G .n) (G .start) ++ productionsBytes (G .productions)
 
--- the bytes are the image of G
+-- the bytes are the image of G: "the slice's end must fall between records"
 pub record Image (bytes : List ℕ) (G : Grammar) : Type 0 where
   pub formed : WellFormed G
   pub is : bytes ≡ imageOf G
 
--- the bytes begin with the image of G, and `rest` follows
+-- the bytes begin with the image of G, and `rest` follows: "After each record the rest of the image is read by the same rule"
 pub record Begins (bytes : List ℕ) (G : Grammar) (rest : List ℕ) : Type 0 where
   pub formed : WellFormed G
   pub is : bytes ≡ imageOf G ++ rest
@@ -37,7 +37,7 @@ pub record Begins (bytes : List ℕ) (G : Grammar) (rest : List ℕ) : Type 0 wh
 abbrev pub NoMore : Grammar → List ℕ → Type 0
 NoMore G rest = (P : Production) (more : List ℕ) → WellFormed (extended G P) → rest ≡ productionBytes P ++ more → ⊥
 
--- the bytes begin with a head
+-- the bytes begin with an allowed head
 abbrev pub HeadFirst : List ℕ → Type 0
 HeadFirst bytes = (t n s : ℕ) × (rest : List ℕ) × AllowedHead t n s × (bytes ≡ headBytes t n s ++ rest)
 

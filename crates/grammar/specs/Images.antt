@@ -1,7 +1,6 @@
 -- An image is that of one grammar, or it has one first bad offset, and never both.
 use mathlib.Core.Path.{_≡_, refl, ap, sym, _∙_}
-use mathlib.Core.Logic.{_⊎_, inl, inr}
-use Prim.Native.Nat.{ℕ, suc, _+_, _≤_, _<_}
+use Prim.Native.Nat.{ℕ, _+_, _≤_, _<_}
 use mathlib.Core.List.{List, [], _∷_, _++_, append-assoc, append-nil}
 use lib.ListN.{length, take, drop, getD, length-append}
 use lib.Seq.{take-append-seam, drop-append-seam}
@@ -9,8 +8,8 @@ use native.Mathlib.Omega.{arith}
 use Rattle.base.specs.Choose.{never}
 use Rattle.grammar.specs.Limits.{recordMark, headMark, productionMark}
 use Rattle.grammar.specs.Each.{Each, each-join, each-parts, each-head, each-map}
-use Rattle.grammar.specs.Grammar.{Production, Grammar, AllowedHead, Allowed, WellFormed, extended}
-use Rattle.grammar.specs.Image.{headBytes, productionBytes, productionsBytes, imageOf, Image, Begins, NoMore, HeadFirst, Bad, bad-head, bad-production}
+use Rattle.grammar.specs.Grammar.{Production, Grammar, Allowed, WellFormed, extended}
+use Rattle.grammar.specs.Image.{productionBytes, productionsBytes, imageOf, Image, Begins, NoMore, Bad, bad-head, bad-production}
 
 -- ---- a record tells its production
 
@@ -84,11 +83,11 @@ no-more-nil G P more f e = never (cc)
 whole : {bytes : List ℕ} {G : Grammar} → Image bytes G → Begins bytes G []
 whole {bytes} {G} i = record { formed = i .formed; is = i .is ∙ sym (append-nil (imageOf G)) }
 
--- (b) two grammars with the same image are equal
+-- two grammars with the same image are equal
 pub image-one : {bytes : List ℕ} {G H : Grammar} → Image bytes G → Image bytes H → G ≡ H
 image-one {G = G} {H = H} i j = begins-one G H (whole i) (whole j) (no-more-nil G) (no-more-nil H) .0
 
--- (c) an image has no bad offset, and no bytes have two
+-- an image has no bad offset, and no bytes have two
 pub good-not-bad : {bytes : List ℕ} {G : Grammar} {k : ℕ} → Image bytes G → Bad bytes k → ⊥
 good-not-bad {G = G} i (bad-head h) = h (G .t, G .n, G .start, productionsBytes (G .productions), i .formed .head, i .is)
 good-not-bad {G = G} i (bad-production H rest b ne st) = ne (sym (begins-one G H (whole i) b (no-more-nil G) st .1))

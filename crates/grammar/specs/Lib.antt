@@ -10,6 +10,7 @@ pub mod Reference
 pub mod Each
 pub mod Trees
 pub mod Images
+pub mod Single
 pub mod Formed
 -- The reader: the rows that it leaves, how it goes, what it promises, and that every image has an outcome.
 pub mod Rows

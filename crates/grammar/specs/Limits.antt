@@ -1,5 +1,9 @@
 -- The numbers of document 01, "Symbols and the grammar image": each has its one name here, and one in src/.
-use Prim.Native.Nat.{ℕ, _+_, _*_}
+use Prim.Native.Nat.{ℕ}
+
+-- "As a lookahead, 0 is the end of the sentence"
+abbrev pub endMark : ℕ
+endMark = 0
 
 -- "t is 1..31, n is 1..32"
 abbrev pub maxTerminals : ℕ

@@ -22,10 +22,10 @@ pub record Conflict (G : Grammar) (M : ℕ) : Type 0 where
 
 -- "A grammar is LL(1) if no two productions of one nonterminal share a predictor"
 abbrev pub LL1 : Grammar → Type 0
-LL1 G = (M a p q : ℕ) → Predicts G M a p → Predicts G M a q → p ≡ q
+LL1 G = (M : ℕ) → Conflict G M → ⊥
 
 -- "The stem from M to a, where a is in FIRST(M), is the path of symbols from M down to the leftmost a, and ends with a itself":
--- below M stands a symbol of one of its bodies with nothing before it but what may derive nothing
+-- below M stands a symbol of one of its bodies with nothing before it but what may derive nothing. `Stem G a M s`: s is the stem from M to a
 pub data Stem (G : Grammar) (a : ℕ) : ℕ → List ℕ → Type 0 where
   ends : Terminal G a → Stem G a a (a ∷ [])
   down : {p M x : ℕ} {s : List ℕ} (α β : List ℕ) → Rule G p M (α ++ x ∷ β) → Nullable G α → Stem G a x s → Stem G a M (M ∷ s)
@@ -38,11 +38,11 @@ pub record Highest (x : ℕ) (s s' : List ℕ) : Type 0 where
   pub shared : List·Memᴰ x s'
   pub first : (y : ℕ) → List·Memᴰ y above → List·Memᴰ y s' → ⊥
 
--- the entry where no break point is
+-- the entry where M is expected and a can't come
 abbrev pub noBreak : ℕ
 noBreak = 255
 
--- "Break point [M, N, a]: 0 if a is not in FIRST(N). Else, if a is in FIRST(M), the highest symbol on both stems, which may be a.
+-- of nonterminals M and N: "Break point [M, N, a]: 0 if a is not in FIRST(N). Else, if a is in FIRST(M), the highest symbol on both stems, which may be a.
 -- Else N if M may derive nothing and a is in FOLLOW(M). Else 255."
 pub data Break (G : Grammar) (M N a : ℕ) : ℕ → Type 0 where
   not-first : (First G a (N ∷ []) → ⊥) → Break G M N a 0

@@ -1,19 +1,18 @@
 -- Reading an image record by record: what the reader's functions promise, and the laws that their proofs cite.
 use mathlib.Core.Path.{_≡_, refl, ap, ap₂, sym, _∙_}
 use mathlib.Core.Bool.{Bool, true, false}
-use Prim.Native.Nat.{ℕ, zero, suc, _+_, _-_, _*_, _≤_, _<_}
+use Prim.Native.Nat.{ℕ, _+_, _-_, _*_, _≤_, _<_}
 use mathlib.Core.List.{List, [], _∷_, _++_, append-assoc, append-nil}
 use lib.ListN.{length, take, drop, getD, length-append, length-drop, take-append-drop}
-use lib.Seq.{drop-cons, take-suc, take-all, take-append-seam, drop-append-seam, length-take-le, append-snoc}
+use lib.Seq.{drop-cons, take-suc, take-all, take-append-seam, drop-append-seam, length-take-le}
 use native.Mathlib.Numerals.{add-one}
 use native.Mathlib.Omega.{arith}
-use Rattle.base.specs.Choose.{never}
 use Rattle.base.specs.Tells.{Tells, tells-yes, tells-no}
 use Rattle.base.specs.Blocks.{zeros, copied, part-tail}
-use Rattle.grammar.specs.Limits.{maxTerminals, maxNonterminals, maxProductions, maxBody, recordMark, headMark, productionMark, headSize, prefixSize}
+use Rattle.grammar.specs.Limits.{maxProductions, maxBody, recordMark, headMark, productionMark, headSize, prefixSize}
 use Rattle.grammar.specs.Each.{Each, each-join, each-parts, each-head, each-at}
-use Rattle.grammar.specs.Grammar.{Production, Grammar, NonterminalOf, SymbolOf, AllowedHead, Allowed, WellFormed, extended}
-use Rattle.grammar.specs.Image.{headBytes, productionBytes, productionsBytes, imageOf, Image, Begins, NoMore, HeadFirst, Bad, bad-head, bad-production}
+use Rattle.grammar.specs.Grammar.{Production, Grammar, AllowedHead, Allowed}
+use Rattle.grammar.specs.Image.{headBytes, productionBytes, productionsBytes, imageOf, Begins, HeadFirst, Bad, bad-production}
 use Rattle.grammar.specs.Rows.{rowSize, rowsSize, rowsOf, length-rowsOf, rows-none, rows-more}
 
 -- ---- lists by their first bytes

@@ -1,8 +1,8 @@
 -- How the reader leaves the productions for later code: rows of fixed width, each a left side, a body length, the body, and zeros.
--- A row is read without trusting it, so that any bytes are the rows of some grammar; the rows of a grammar within the limits are those of that grammar alone.
+-- A row is read without trusting it, so that any bytes are the rows of some grammar; the rows of a grammar within the limits, with its head and count, hold that grammar.
 use mathlib.Core.Path.{_≡_, refl, ap, sym, _∙_}
 use Prim.Native.Nat.{ℕ, zero, suc, _+_, _-_, _*_, _/_, _%_, _≤_, _<_}
-use mathlib.Core.List.{List, [], _∷_, _++_, map, append-assoc, append-nil}
+use mathlib.Core.List.{List, [], _∷_, _++_, append-assoc, append-nil}
 use lib.ListN.{length, take, drop, getD, length-append, length-take, drop-of-length-le, List·getD-eq-default}
 use lib.Seq.{append-snoc, take-at, drop-at, getD-take, getD-drop, drop-drop}
 use native.Mathlib.Omega.{arith}
@@ -10,22 +10,21 @@ use Rattle.base.specs.Blocks.{zeros, length-zeros, zeros-append, copied, copied
 use Rattle.grammar.specs.Limits.{maxTerminals, maxNonterminals, maxProductions, maxBody}
 use Rattle.grammar.specs.Each.{Each, each-join}
 use Rattle.grammar.specs.Grammar.{Production, Grammar, SymbolOf, Allowed, WellFormed}
-use Rattle.grammar.specs.Image.{productionBytes}
 
 -- a left side, a length and a body
 abbrev pub rowSize : ℕ
-rowSize = 10
+rowSize = 2 + maxBody
 
 abbrev pub rowsSize : ℕ
-rowsSize = 1280
+rowsSize = maxProductions * rowSize
 
 -- one more than the highest symbol
 abbrev pub symbolSpace : ℕ
-symbolSpace = 64
+symbolSpace = 1 + maxTerminals + maxNonterminals
 
 -- one more than the longest body
 abbrev pub bodySpace : ℕ
-bodySpace = 9
+bodySpace = 1 + maxBody
 
 -- ---- the rows of productions
 
@@ -168,7 +167,7 @@ module _ {t n : ℕ} (small : t + n < symbolSpace) where
       in
       λ i. production-in (rowsBytes (Qs ++ P ∷ more) ++ zs) (length Qs) P a (row-in Qs P more zs q a) i ∷ rest i
 
--- (b) a grammar's rows hold that grammar
+-- a grammar's rows hold that grammar
 pub rows-grammar : (G : Grammar) → WellFormed G → grammarIn (rowsOf (G .productions)) (G .t) (G .n) (G .start) (length (G .productions)) ≡ G
 unfolding grammarIn rowsOf
 rows-grammar G f =

@@ -4,7 +4,7 @@ use mathlib.Core.Logic.{_↔_}
 use Prim.Native.Nat.{ℕ}
 use mathlib.Core.List.{List, [], _∷_, _++_, append-assoc, append-nil}
 use Rattle.grammar.specs.Each.{Each}
-use Rattle.grammar.specs.Grammar.{Grammar, Rule, Terminal}
+use Rattle.grammar.specs.Grammar.{Grammar, Terminal}
 use Rattle.grammar.specs.Derivation.{Step, at, Steps, stop, then}
 use Rattle.grammar.specs.Forest.{Token, kinds, Forest, yield, Derives, Tree}
 

@@ -32,13 +32,13 @@ const HEAD_SIZE: usize = 5;
 const PREFIX_SIZE: usize = 4;
 
 // A row is a left side, a body length, the body, and zeros.
-pub const ROW_SIZE: usize = 10;
+pub const ROW_SIZE: usize = 2 + MAX_BODY;
 
-pub const ROWS_SIZE: usize = 1280;
+pub const ROWS_SIZE: usize = MAX_PRODUCTIONS * ROW_SIZE;
 
-pub const SYMBOL_SPACE: usize = 64;
+pub const SYMBOL_SPACE: usize = 1 + MAX_TERMINALS + MAX_NONTERMINALS;
 
-pub const BODY_SPACE: usize = 9;
+pub const BODY_SPACE: usize = 1 + MAX_BODY;
 
 // What a good image's head says, and how many productions follow it.
 pub struct Head {
@@ -143,7 +143,7 @@ fn production_size(rest: &[u8], t: usize, n: usize) -> usize
     if rest.len() - PREFIX_SIZE < body {
         return 0;
     }
-    if all_symbols(&rest[4..4 + body], t + n) {
+    if all_symbols(&rest[PREFIX_SIZE..PREFIX_SIZE + body], t + n) {
         return PREFIX_SIZE + body;
     }
     0

@@ -1,24 +1,17 @@
 use Rattle.base.specs.Bytes.{outs}
-use native.Mathlib.Omega.{arith}
 use borrow.Author.Needs.{needs}
 use Rattle.base.proofs.put_byte.Statement.{statement}
 use Rattle.base.proofs.put_byte.Tie as tie
-use Rattle.base.proofs.put_byte.Reads as reads
-use Rattle.base.proofs.put_byte.Lts as lts
 
--- src/lib.rt:31:9
 slice-write-b : tie.Need-slice-write-b
 slice-write-b c = search needs
 
--- src/lib.rt:32:9
 same-length : tie.Need-same-length
 same-length c = search needs
 
--- src/lib.rt:32:9
 returns : tie.Need-returns
 returns c = search needs
 
--- src/lib.rt:27:1
 returns-2 : tie.Need-returns-2
 returns-2 c = search (outs, needs)
 

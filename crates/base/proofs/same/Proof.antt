@@ -1,13 +1,9 @@
 use Rattle.base.specs.Blocks.{Alike, comparing}
 use Prim.Native.Nat.{_-_, _≤_}
-use mathlib.Core.Path.{_≡_}
 use lib.ListN.{length}
 use borrow.Author.Needs.{needs}
-use native.Mathlib.Omega.{arith}
 use Rattle.base.proofs.same.Statement.{statement}
 use Rattle.base.proofs.same.Tie as tie
-use Rattle.base.proofs.same.Reads as reads
-use Rattle.base.proofs.same.Lts as lts
 
 abbrev Inv-loop : tie.InvT-loop
 Inv-loop a b i₀ i = (i ≤ length a) × Alike a b i
@@ -15,39 +11,30 @@ Inv-loop a b i₀ i = (i ≤ length a) × Alike a b i
 abbrev μ-loop : tie.MeasureT-loop
 μ-loop a b i₀ i = length a - i
 
--- src/lib.rt:98:9
 returns : tie.Need-returns Inv-loop μ-loop
 returns c = search (comparing, needs)
 
--- src/lib.rt:101:5
 loop-holds : tie.Need-loop-holds Inv-loop μ-loop
 loop-holds c = search (comparing, needs)
 
--- src/lib.rt:102:12
 shared-slice-read-if2 : tie.Need-shared-slice-read-if2 Inv-loop μ-loop
 shared-slice-read-if2 c = search needs
 
--- src/lib.rt:102:20
 shared-slice-read-if2-2 : tie.Need-shared-slice-read-if2-2 Inv-loop μ-loop
 shared-slice-read-if2-2 c = search needs
 
--- src/lib.rt:103:13
 returns-2 : tie.Need-returns-2 Inv-loop μ-loop
 returns-2 c = search (comparing, needs)
 
--- src/lib.rt:105:9
 add-i : tie.Need-add-i Inv-loop μ-loop
 add-i c = search needs
 
--- src/lib.rt:101:5
 loop-less : tie.Need-loop-less Inv-loop μ-loop
 loop-less c = search needs
 
--- src/lib.rt:101:5
 loop-again : tie.Need-loop-again Inv-loop μ-loop
 loop-again c = search (comparing, needs)
 
--- src/lib.rt:94:1
 returns-3 : tie.Need-returns-3 Inv-loop μ-loop
 returns-3 c = search (comparing, needs)
 

@@ -2,12 +2,8 @@ use Prim.Native.Nat.{_-_, _≤_}
 use lib.ListN.{length, take}
 use Rattle.grammar.specs.Reading.{Symbols, symbols}
 use borrow.Author.Needs.{needs}
-use native.Mathlib.Omega.{arith}
 use Rattle.grammar.proofs.all_symbols.Statement.{statement}
 use Rattle.grammar.proofs.all_symbols.Tie as tie
-use Rattle.grammar.proofs.all_symbols.Reads as reads
-use Rattle.grammar.proofs.all_symbols.Lts as lts
-use Rattle.base.proofs.wide.Reads as wide-reads
 
 abbrev Inv-loop : tie.InvT-loop
 Inv-loop b last i₀ i = (i ≤ length b) × Symbols last (take i b)
@@ -15,39 +11,30 @@ Inv-loop b last i₀ i = (i ≤ length b) × Symbols last (take i b)
 abbrev μ-loop : tie.MeasureT-loop
 μ-loop b last i₀ i = length b - i
 
--- src/lib.rt:93:5
 loop-holds : tie.Need-loop-holds Inv-loop μ-loop
 loop-holds c = search (symbols, needs)
 
--- src/lib.rt:94:28
 shared-slice-read-wide : tie.Need-shared-slice-read-wide Inv-loop μ-loop
 shared-slice-read-wide c = search (symbols, needs)
 
--- src/lib.rt:94:13
 wide-requires : tie.Need-wide-requires Inv-loop μ-loop
 wide-requires c κs = search (symbols, needs)
 
--- src/lib.rt:96:13
 returns : tie.Need-returns Inv-loop μ-loop
 returns c = search (symbols, needs)
 
--- src/lib.rt:99:13
 returns-2 : tie.Need-returns-2 Inv-loop μ-loop
 returns-2 c = search (symbols, needs)
 
--- src/lib.rt:101:9
 add-i : tie.Need-add-i Inv-loop μ-loop
 add-i c = search (symbols, needs)
 
--- src/lib.rt:93:5
 loop-less : tie.Need-loop-less Inv-loop μ-loop
 loop-less c = search (symbols, needs)
 
--- src/lib.rt:93:5
 loop-again : tie.Need-loop-again Inv-loop μ-loop
 loop-again c = search (symbols, needs)
 
--- src/lib.rt:89:1
 returns-3 : tie.Need-returns-3 Inv-loop μ-loop
 returns-3 c = search (symbols, needs)
 

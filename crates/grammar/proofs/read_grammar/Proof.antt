@@ -1,46 +1,31 @@
 use Rattle.base.specs.Blocks.{zeros-sized}
 use Rattle.grammar.specs.Reading.{headed}
 use Rattle.grammar.specs.Outcome.{ending}
-use native.Mathlib.Omega.{arith}
 use borrow.Author.Needs.{needs}
 use Rattle.grammar.proofs.read_grammar.Statement.{statement}
 use Rattle.grammar.proofs.read_grammar.Tie as tie
-use Rattle.grammar.proofs.read_grammar.Reads as reads
-use Rattle.grammar.proofs.read_grammar.Lts as lts
-use Rattle.base.proofs.byte_at.Reads as byte-at-reads
-use Rattle.base.proofs.zero.Reads as zero-reads
-use Rattle.grammar.proofs.head_first.Reads as head-first-reads
-use Rattle.grammar.proofs.read_productions.Reads as read-productions-reads
 
--- src/lib.rt:181:5
 zero-requires : tie.Need-zero-requires
 zero-requires c κs = search needs
 
--- src/lib.rt:182:8
 head-first-requires : tie.Need-head-first-requires
 head-first-requires c κs = search needs
 
--- src/lib.rt:183:13
 byte-at-requires : tie.Need-byte-at-requires
 byte-at-requires c κs = search needs
 
--- src/lib.rt:184:13
 byte-at-requires-2 : tie.Need-byte-at-requires-2
 byte-at-requires-2 c κs = search needs
 
--- src/lib.rt:185:13
 byte-at-requires-3 : tie.Need-byte-at-requires-3
 byte-at-requires-3 c κs = search needs
 
--- src/lib.rt:186:9
 read-productions-requires : tie.Need-read-productions-requires
 read-productions-requires c κs = (search headed, search (zeros-sized, needs))
 
--- src/lib.rt:186:9
 returns : tie.Need-returns
 returns c = search needs
 
--- src/lib.rt:178:1
 returns-2 : tie.Need-returns-2
 returns-2 c = search (ending, zeros-sized, needs)
 

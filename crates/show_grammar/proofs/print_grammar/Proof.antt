@@ -1,14 +1,7 @@
 use Prim.Native.Nat.{_-_, _≤_}
 use borrow.Author.Needs.{needs}
-use native.Mathlib.Omega.{arith}
 use Rattle.show_grammar.proofs.print_grammar.Statement.{statement}
 use Rattle.show_grammar.proofs.print_grammar.Tie as tie
-use Rattle.show_grammar.proofs.print_grammar.Reads as reads
-use Rattle.show_grammar.proofs.print_grammar.Lts as lts
-use Rattle.show_grammar.proofs.print.Reads as print-reads
-use Rattle.show_grammar.proofs.print_field.Reads as print-field-reads
-use Rattle.show_grammar.proofs.print_number.Reads as print-number-reads
-use Rattle.show_grammar.proofs.print_production.Reads as print-production-reads
 
 abbrev Inv-loop : tie.InvT-loop
 Inv-loop rows count p₀ p = p ≤ count
@@ -16,67 +9,51 @@ Inv-loop rows count p₀ p = p ≤ count
 abbrev μ-loop : tie.MeasureT-loop
 μ-loop rows count p₀ p = count - p
 
--- src/main.rt:32:11
 slice-aggregate-print : tie.Need-slice-aggregate-print Inv-loop μ-loop
 slice-aggregate-print c = search needs
 
--- src/main.rt:32:5
 print-requires : tie.Need-print-requires Inv-loop μ-loop
 print-requires c κs = search needs
 
--- src/main.rt:33:5
 print-field-requires : tie.Need-print-field-requires Inv-loop μ-loop
 print-field-requires c κs = search needs
 
--- src/main.rt:34:5
 print-field-requires-2 : tie.Need-print-field-requires-2 Inv-loop μ-loop
 print-field-requires-2 c κs = search needs
 
--- src/main.rt:35:5
 print-field-requires-3 : tie.Need-print-field-requires-3 Inv-loop μ-loop
 print-field-requires-3 c κs = search needs
 
--- src/main.rt:36:5
 print-field-requires-4 : tie.Need-print-field-requires-4 Inv-loop μ-loop
 print-field-requires-4 c κs = search needs
 
--- src/main.rt:37:11
 slice-aggregate-print-2 : tie.Need-slice-aggregate-print-2 Inv-loop μ-loop
 slice-aggregate-print-2 c = search needs
 
--- src/main.rt:37:5
 print-requires-2 : tie.Need-print-requires-2 Inv-loop μ-loop
 print-requires-2 c κs = search needs
 
--- src/main.rt:39:5
 loop-holds : tie.Need-loop-holds Inv-loop μ-loop
 loop-holds c = search needs
 
--- src/main.rt:40:22
 add-print-number : tie.Need-add-print-number Inv-loop μ-loop
 add-print-number c = search needs
 
--- src/main.rt:40:9
 print-number-requires : tie.Need-print-number-requires Inv-loop μ-loop
 print-number-requires c κs = search needs
 
--- src/main.rt:41:9
 print-production-requires : tie.Need-print-production-requires Inv-loop μ-loop
 print-production-requires c κs = search needs
 
--- src/main.rt:39:9
 add-p : tie.Need-add-p Inv-loop μ-loop
 add-p c = search needs
 
--- src/main.rt:39:5
 loop-less : tie.Need-loop-less Inv-loop μ-loop
 loop-less c = search needs
 
--- src/main.rt:39:5
 loop-again : tie.Need-loop-again Inv-loop μ-loop
 loop-again c = search needs
 
--- src/main.rt:31:1
 returns : tie.Need-returns Inv-loop μ-loop
 returns c = search needs
 

@@ -1,0 +1,110 @@
+-- Sets of small numbers as the bits of a number: which are in it, and what `|`, a shift and the lowest bit do.
+use Prim.Native.Nat.{ℕ, zero, suc, _-_, _/_, _%_, _^_, _≤_, _<_, max}
+use mathlib.Core.Path.{_≡_, refl, ap, sym, _∙_}
+use mathlib.Core.Logic.{_⊎_, inl, inr, by-cases}
+use native.Mathlib.Nat.{pow-suc, pow-succ', div-div-eq-div-mul}
+use native.Mathlib.Decide.{ℕ-discrete}
+use native.Mathlib.Omega.{arith}
+use lib.Bits.{bitOr, or-step, or-add-and, and-le-r}
+
+-- bit i of m, 0 or 1
+unfoldable pub bit : ℕ → ℕ → ℕ
+bit zero m = m % 2
+bit (suc i) m = bit i (m / 2)
+
+-- i is in the set m
+pub record Has (m i : ℕ) : Type 0 where
+  pub is : bit i m ≡ 1
+
+bit-small : (i m : ℕ) → bit i m ≤ 1
+unfolding bit
+bit-small zero m = omega arith
+bit-small (suc i) m = bit-small i (m / 2)
+
+bit-or : (i a b : ℕ) → bit i (bitOr a b) ≡ max (bit i a) (bit i b)
+unfolding bit
+bit-or zero a b = omega (arith, or-step a b)
+bit-or (suc i) a b =
+    let q : bitOr a b / 2 ≡ bitOr (a / 2) (b / 2) = omega (arith, or-step a b) in
+    ap (bit i) q ∙ bit-or i (a / 2) (b / 2)
+
+module _ (a b i : ℕ) where
+  pub or-has : Has (bitOr a b) i → Has a i ⊎ Has b i
+  or-has h =
+      by-cases (ℕ-discrete (bit i a) 1) (λ e. inl (record { is = e }))
+      (λ n. inr (record { is = omega (arith, h .is, bit-or i a b, bit-small i a, bit-small i b) }))
+
+  pub has-or-left : Has a i → Has (bitOr a b) i
+  has-or-left h = record { is = omega (arith, h .is, bit-or i a b, bit-small i b) }
+
+  pub has-or-right : Has b i → Has (bitOr a b) i
+  has-or-right h = record { is = omega (arith, h .is, bit-or i a b, bit-small i a) }
+
+pub or-grows : (a b : ℕ) → a ≤ bitOr a b
+or-grows a b = omega (arith, or-add-and a b, and-le-r a b)
+
+bit-zero : (i : ℕ) → bit i 0 ≡ 0
+unfolding bit
+bit-zero zero = refl
+bit-zero (suc i) = bit-zero i
+
+pub none-has : (i : ℕ) → Has 0 i → ⊥
+none-has i h = omega (arith, h .is, bit-zero i)
+
+-- one number alone
+
+bit-pow-same : (k : ℕ) → bit k (2 ^ k) ≡ 1
+unfolding bit
+bit-pow-same zero = refl
+bit-pow-same (suc k) = let q : 2 ^ suc k / 2 ≡ 2 ^ k = omega (arith, pow-suc 2 k) in ap (bit k) q ∙ bit-pow-same k
+
+bit-pow-other : (i k : ℕ) → (i ≡ k → ⊥) → bit i (2 ^ k) ≡ 0
+unfolding bit
+bit-pow-other zero zero n = absurd (n refl)
+bit-pow-other zero (suc k) n = omega (arith, pow-suc 2 k)
+bit-pow-other (suc i) zero n = bit-zero i
+bit-pow-other (suc i) (suc k) n =
+    let q : 2 ^ suc k / 2 ≡ 2 ^ k = omega (arith, pow-suc 2 k) in
+    ap (bit i) q ∙ bit-pow-other i k (λ e. n (ap suc e))
+
+pub one-has : (k : ℕ) → Has (2 ^ k) k
+one-has k = record { is = bit-pow-same k }
+
+pub has-one : (k i : ℕ) → Has (2 ^ k) i → i ≡ k
+has-one k i h = by-cases (ℕ-discrete i k) (λ e. e) (λ n. absurd (omega (arith, h .is, bit-pow-other i k n)))
+
+-- the lowest bit, and all but the lowest
+
+pub odd-has : (m : ℕ) → m % 2 ≡ 1 → Has m 0
+unfolding bit
+odd-has m e = record { is = e }
+
+pub has-odd : (m : ℕ) → Has m 0 → m % 2 ≡ 1
+unfolding bit
+has-odd m h = h .is
+
+bit-high : (i m : ℕ) → bit (suc i) (m - m % 2) ≡ bit (suc i) m
+unfolding bit
+bit-high i m = let q : (m - m % 2) / 2 ≡ m / 2 = omega arith in ap (bit i) q
+
+pub high-has : (m i : ℕ) → Has (m - m % 2) i → (0 < i) × Has m i
+unfolding bit
+high-has m zero h = absurd (omega (arith, h .is))
+high-has m (suc i) h = (omega arith, record { is = sym (bit-high i m) ∙ h .is })
+
+pub has-high : (m i : ℕ) → 0 < i → Has m i → Has (m - m % 2) i
+has-high m zero l h = absurd (omega arith)
+has-high m (suc i) l h = record { is = bit-high i m ∙ h .is }
+
+-- a shift and the lowest bit
+
+shift-bit : (i m : ℕ) → m / 2 ^ i % 2 ≡ bit i m
+unfolding bit
+shift-bit zero m = let q : m / 1 ≡ m = omega arith in ap (λ (x : ℕ). x % 2) q
+shift-bit (suc i) m = ap (λ (x : ℕ). m / x % 2) (pow-succ' 2 i) ∙ ap (λ (x : ℕ). x % 2) (sym (div-div-eq-div-mul m 2 (2 ^ i))) ∙ shift-bit i (m / 2)
+
+pub shifted-has : (m i : ℕ) → m / 2 ^ i % 2 ≡ 1 → Has m i
+shifted-has m i e = record { is = sym (shift-bit i m) ∙ e }
+
+pub has-shifted : (m i : ℕ) → Has m i → m / 2 ^ i % 2 ≡ 1
+has-shifted m i h = shift-bit i m ∙ h .is

@@ -1,0 +1,3 @@
+pub mod Closures
+pub mod Words
+pub mod Growth
