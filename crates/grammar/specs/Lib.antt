@@ -14,6 +14,7 @@ pub mod Single
 pub mod Formed
 -- The reader: the rows that it leaves, how it goes, what it promises, and that every image has an outcome.
 pub mod Rows
+pub mod RowRules
 pub mod Reading
 pub mod Outcome
 pub mod Decided

@@ -219,3 +219,18 @@ module _ (rows : List ℕ) (p : ℕ) where
       omega arith
 
 pub ruleset rowReads = (left-in, left-out, length-in, length-out, symbol-in, symbol-out, symbol-past)
+
+-- ---- whatever the bytes, symbols and lengths are small
+
+pub left-small : (rows : List ℕ) (p : ℕ) → leftAt rows p < symbolSpace
+unfolding leftAt
+left-small rows p = omega arith
+
+pub length-small : (rows : List ℕ) (p : ℕ) → lengthAt rows p < bodySpace
+unfolding lengthAt
+length-small rows p = omega arith
+
+pub symbols-small : (rows : List ℕ) (p k j : ℕ) → Each (λ (x : ℕ). x < symbolSpace) (symbolsFrom rows p k j)
+unfolding symbolAt
+symbols-small rows p zero j = Each.nil
+symbols-small rows p (suc k) j = let l : symbolAt rows p j < symbolSpace = omega arith in Each.cons l (symbols-small rows p k (j + 1))

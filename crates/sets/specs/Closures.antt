@@ -194,7 +194,7 @@ module _ {G : Grammar} where
   next-right v (n-first b) = n-first (begin-right v b)
   next-right v (n-end w e) = n-end (vanish-join v w) e
 
-  expand-in : {p N : ℕ} {γ : List ℕ} (M : ℕ) (δ ζ α β : List ℕ) → Steps G (G .start ∷ []) (δ ++ N ∷ ζ) → Rule G p N γ → γ ≡ α ++ M ∷ β
+  pub expand-in : {p N : ℕ} {γ : List ℕ} (M : ℕ) (δ ζ α β : List ℕ) → Steps G (G .start ∷ []) (δ ++ N ∷ ζ) → Rule G p N γ → γ ≡ α ++ M ∷ β
       → Steps G (G .start ∷ []) (δ ++ α ++ M ∷ (β ++ ζ))
   expand-in M δ ζ α β s r e = simp append-assoc (simp (e, append-assoc) at (trans s (then (at δ ζ r) stop)))
 
