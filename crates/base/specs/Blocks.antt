@@ -19,6 +19,12 @@ pub length-zeros : (n : ℕ) → length (zeros n) ≡ n
 unfolding zeros
 length-zeros n = length-replicate n 0
 
+pub byte-zeros : (n i : ℕ) → getD (zeros n) i 0 ≡ 0
+unfolding zeros
+byte-zeros zero i = refl
+byte-zeros (suc n) zero = refl
+byte-zeros (suc n) (suc i) = byte-zeros n i
+
 pub zeros-append : (n m : ℕ) → zeros n ++ zeros m ≡ zeros (n + m)
 unfolding zeros
 zeros-append n m = replicate-append-replicate n m 0

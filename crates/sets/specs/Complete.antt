@@ -1,9 +1,7 @@
 -- Completeness: words to which no production has anything to add have all that is so.
-use Prim.Native.Nat.{ℕ, zero, suc, _+_, _-_, _%_, _≤_, _<_}
-use mathlib.Core.Path.{_≡_, refl, ap, sym, _∙_}
+use Prim.Native.Nat.{ℕ, _+_, _%_, _<_}
 use mathlib.Core.List.{List, [], _∷_, _++_}
 use lib.ListN.{getD}
-use lib.Dec.{eqb}
 use borrow.Author.Tests.{eq-eqb}
 use native.Mathlib.Omega.{arith}
 use Rattle.base.specs.Choose.{choose}
@@ -12,7 +10,7 @@ use Rattle.grammar.specs.Each.{Each, each-join, each-parts, each-head, each-tai
 use Rattle.grammar.specs.Grammar.{Grammar, Rule, Terminal}
 use Rattle.grammar.specs.Derivation.{Step, at, Steps, stop, then, Productive, Reachable}
 use Rattle.sets.specs.Closures.{Vanish, v-nil, v-cons, Begin, b-here, b-rule, b-skip, After, a-start, a-first, a-up}
-use Rattle.sets.specs.Words.{follows, marks, leads, suffix, both, made, high}
+use Rattle.sets.specs.Words.{follows, marks, leads, suffix, both, made}
 use Rattle.sets.specs.Facts.{leads-here, leads-past}
 use Rattle.sets.specs.Still.{Behind, Closed}
 

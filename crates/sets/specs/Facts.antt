@@ -1,8 +1,7 @@
 -- Soundness: what the bits of the words mean, and that a pass over a production of the grammar lights only what is so.
-use Prim.Native.Nat.{ℕ, zero, suc, _+_, _-_, _%_, _≤_, _<_}
-use mathlib.Core.Path.{_≡_, refl, ap, sym, _∙_}
+use Prim.Native.Nat.{ℕ, _+_, _-_, _%_, _<_}
+use mathlib.Core.Path.{_≡_, refl, sym, _∙_}
 use mathlib.Core.Logic.{_⊎_, inl, inr, by-cases}
-use mathlib.Core.Bool.{Bool, true, false}
 use mathlib.Core.List.{List, [], _∷_, _++_, append-assoc, append-nil}
 use lib.ListN.{length, getD, set}
 use lib.Seq.{getD-set-same, getD-set-other, set-out}
@@ -11,14 +10,14 @@ use lib.Bits.{bitOr}
 use borrow.Author.Tests.{eqb-true, eqb-false}
 use native.Mathlib.Decide.{ℕ-discrete, decLt}
 use native.Mathlib.Omega.{arith}
-use Rattle.base.specs.Choose.{choose, choose-of}
-use Rattle.base.specs.Bits.{Has, or-has, none-has, one-has, has-one, odd-has, has-odd, high-has, has-high, has-or-left, has-or-right}
+use Rattle.base.specs.Choose.{choose-of}
+use Rattle.base.specs.Bits.{Has, or-has, none-has, has-one, odd-has, has-odd, high-has, has-high, has-or-left, has-or-right}
 use Rattle.grammar.specs.Each.{Each, each-join}
 use Rattle.grammar.specs.Grammar.{Grammar, Rule, Terminal}
 use Rattle.grammar.specs.Derivation.{Step, at, Steps, stop, then, Reachable}
 use Rattle.grammar.specs.Trees.{trans, steps-in}
 use Rattle.grammar.specs.Rows.{symbolSpace}
-use Rattle.sets.specs.Closures.{Vanish, v-nil, v-cons, vanish-join, Begin, b-here, b-rule, b-skip, begin-left, begin-right, begin-terminal, After, a-start, a-first, a-up, expand-in}
+use Rattle.sets.specs.Closures.{Vanish, v-nil, v-cons, vanish-join, Begin, b-rule, b-skip, begin-left, begin-terminal, After, a-first, a-up, expand-in}
 use Rattle.sets.specs.Words.{follows, marks, leads, suffix, both, raised, high, stepped, Pass, turn, passed, closing, produced}
 
 -- ---- a word in front of another

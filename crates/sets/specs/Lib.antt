@@ -5,3 +5,5 @@ pub mod Facts
 pub mod Still
 pub mod Complete
 pub mod Known
+pub mod Sweeps
+pub mod Rounds

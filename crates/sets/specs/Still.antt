@@ -1,9 +1,9 @@
 -- A sweep over the productions that changes no word: then no production has anything to add.
-use Prim.Native.Nat.{ℕ, zero, suc, _+_, _-_, _≤_, _<_}
-use mathlib.Core.Path.{_≡_, refl, ap, sym, _∙_}
+use Prim.Native.Nat.{ℕ, zero, suc, _+_, _<_}
+use mathlib.Core.Path.{_≡_, refl, ap}
 use mathlib.Core.Bool.{Bool, true, false}
 use mathlib.Core.Logic.{by-cases}
-use mathlib.Core.List.{List, [], _∷_, _++_}
+use mathlib.Core.List.{List, [], _∷_}
 use lib.ListN.{length, getD}
 use native.Mathlib.Decide.{ℕ-discrete}
 use native.Mathlib.Omega.{arith}
@@ -104,6 +104,9 @@ module _ (rows : List ℕ) (back : Bool) (count : ℕ) where
       go : (b : Bool) → (turned b count p < count) × (turned b count (turned b count p) ≡ p)
       go true = (omega arith, omega arith)
       go false = (l, refl)
+
+  pub turned-low : (p : ℕ) → p < count → turned back count p < count
+  turned-low p l = turned-back p l .0
 
   still-swept : (k : ℕ) (s : List ℕ) → swept rows back count k s ≡ s → (j : ℕ) → j < k → producedAt rows (turned back count j) s ≡ s
   unfolding swept producedAt

@@ -1,11 +1,12 @@
 -- Model: the sets of a grammar as words of bits, three for each symbol, and what one pass over a production does to them.
-use Prim.Native.Nat.{ℕ, zero, suc, _+_, _-_, _%_, _<_}
+use Prim.Native.Nat.{ℕ, zero, suc, _+_, _-_, _%_, _^_}
 use mathlib.Core.Bool.{Bool}
 use mathlib.Core.List.{List, [], _∷_}
 use lib.ListN.{getD, set}
 use lib.Dec.{eqb}
 use lib.Bits.{bitOr}
 use Rattle.base.specs.Choose.{choose}
+use Rattle.base.specs.Blocks.{zeros}
 use Rattle.grammar.specs.Rows.{leftAt, lengthAt, symbolsFrom}
 
 -- word X: bit 0 if X may derive nothing, bit a if a is in FIRST(X).
@@ -85,3 +86,14 @@ turned back count p = choose back (λ _. count - 1 - p) (λ _. p)
 unfoldable pub swept : List ℕ → Bool → ℕ → ℕ → List ℕ → List ℕ
 swept rows back count zero s = s
 swept rows back count (suc k) s = producedAt rows (turned back count k) (swept rows back count k s)
+
+-- ---- what needs no production
+
+-- the terminals 1..k: each begins itself, and is productive
+unfoldable pub tokens : ℕ → List ℕ → List ℕ
+tokens zero s = s
+tokens (suc k) s = raised (raised (tokens k s) (suc k) (2 ^ suc k)) (marks + suc k) 1
+
+-- the end mark follows the start symbol, which is reachable
+unfoldable pub begun : ℕ → ℕ → List ℕ
+begun t start = tokens t (raised (raised (zeros setsSize) (follows + start) 1) (marks + start) 2)
