@@ -7,3 +7,4 @@ pub mod Complete
 pub mod Known
 pub mod Sweeps
 pub mod Rounds
+pub mod Decidable

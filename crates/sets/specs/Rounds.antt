@@ -31,7 +31,7 @@ module _ (rows : List ℕ) (t n start count : ℕ) where
   abbrev G : Grammar
   G = grammarIn rows t n start count
 
-  sound-swept : (back : Bool) (k : ℕ) {s : List ℕ} → k ≤ count → Sound G s → Sound G (swept rows back count k s)
+  pub sound-swept : (back : Bool) (k : ℕ) {s : List ℕ} → k ≤ count → Sound G s → Sound G (swept rows back count k s)
   unfolding swept producedAt
   sound-swept back zero l h = h
   sound-swept back (suc k) l h =
@@ -126,6 +126,14 @@ token-bits (suc k) s n l a h m =
     (λ e. let q = token-bits k s n (omega arith) a h (omega arith) in
     let x = within-trans (within-raised u (suc k) (2 ^ suc k)) w in
     (x .bits a a (q .0), x .bits (marks + a) 0 (q .1)))
+
+pub length-begun : (t start : ℕ) → length (begun t start) ≡ setsSize
+unfolding begun
+length-begun t start =
+    within-tokens t (raised (raised (zeros setsSize) (follows + start) 1) (marks + start) 2) .long
+    ∙ within-raised (raised (zeros setsSize) (follows + start) 1) (marks + start) 2 .long
+    ∙ within-raised (zeros setsSize) (follows + start) 1 .long
+    ∙ length-zeros setsSize
 
 -- ---- so the words are known
 
