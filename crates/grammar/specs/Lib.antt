@@ -11,6 +11,7 @@ pub mod Each
 pub mod Trees
 pub mod Images
 pub mod Single
+pub mod Rules
 pub mod Formed
 -- The reader: the rows that it leaves, how it goes, what it promises, and that every image has an outcome.
 pub mod Rows

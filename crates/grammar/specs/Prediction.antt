@@ -2,8 +2,8 @@
 use mathlib.Core.Path.{_≡_}
 use Prim.Native.Nat.{ℕ}
 use mathlib.Core.List.{List, [], _∷_, _++_, List·Memᴰ}
-use Rattle.grammar.specs.Grammar.{Grammar, Rule, Terminal}
-use Rattle.grammar.specs.Derivation.{Nullable, First, Follow}
+use Rattle.grammar.specs.Grammar.{Grammar, Rule, Terminal, WellFormed}
+use Rattle.grammar.specs.Derivation.{Nullable, First, Follow, Useless}
 
 -- "A production is predicted by FIRST of its body, and by FOLLOW of its left side if the body may derive nothing":
 -- the lookahead a predicts production p, whose left side is M
@@ -49,3 +49,9 @@ pub data Break (G : Grammar) (M N a : ℕ) : ℕ → Type 0 where
   both-first : {x : ℕ} {s s' : List ℕ} → First G a (N ∷ []) → First G a (M ∷ []) → Stem G a M s → Stem G a N s' → Highest x s s' → Break G M N a x
   may-vanish : First G a (N ∷ []) → (First G a (M ∷ []) → ⊥) → Nullable G (M ∷ []) → Follow G M a → Break G M N a N
   no-break : First G a (N ∷ []) → (First G a (M ∷ []) → ⊥) → (Nullable G (M ∷ []) → Follow G M a → ⊥) → Break G M N a noBreak
+
+-- demand 2: "A grammar is prepared exactly when it is well formed, has no useless nonterminal and is LL(1)"
+pub record Prepared (G : Grammar) : Type 0 where
+  pub formed : WellFormed G
+  pub useful : (M : ℕ) → Useless G M → ⊥
+  pub ll1 : LL1 G

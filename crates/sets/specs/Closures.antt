@@ -118,7 +118,7 @@ pub data After (G : Grammar) (a : ℕ) : ℕ → Type 0 where
   a-up : {p N M : ℕ} {γ : List ℕ} (α β : List ℕ) → Rule G p N γ → γ ≡ α ++ M ∷ β → Vanish G β → After G a N → After G a M
 
 -- M in a concatenation stands in one part or the other
-split : (xs ys α : List ℕ) (M : ℕ) (β : List ℕ) → xs ++ ys ≡ α ++ M ∷ β
+pub split : (xs ys α : List ℕ) (M : ℕ) (β : List ℕ) → xs ++ ys ≡ α ++ M ∷ β
     → ((δ : List ℕ) × (xs ≡ α ++ M ∷ δ) × (β ≡ δ ++ ys)) ⊎ ((δ : List ℕ) × (α ≡ xs ++ δ) × (ys ≡ δ ++ M ∷ β))
 split [] ys α M β e = inr (α, refl, e)
 split (x ∷ xs) ys [] M β e = inl (xs, cc, cc)

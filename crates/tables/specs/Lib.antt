@@ -1,0 +1,4 @@
+pub mod Tables
+pub mod Paths
+pub mod Stems
+pub mod One
