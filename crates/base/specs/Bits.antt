@@ -16,6 +16,9 @@ bit (suc i) m = bit i (m / 2)
 pub record Has (m i : ℕ) : Type 0 where
   pub is : bit i m ≡ 1
 
+pub has? : (m i : ℕ) → Dec (Has m i)
+has? m i = by-cases (ℕ-discrete (bit i m) 1) (λ e. yes (record { is = e })) (λ n. no (λ h. n (h .is)))
+
 bit-small : (i m : ℕ) → bit i m ≤ 1
 unfolding bit
 bit-small zero m = omega arith

@@ -5,3 +5,4 @@ pub mod Tells
 pub mod Bits
 pub mod Bytes
 pub mod Blocks
+pub mod Filled

@@ -12,7 +12,7 @@ use lib.Pow.{pow-lt}
 use native.Mathlib.Decide.{ℕ-discrete, decLt}
 use native.Mathlib.Omega.{arith}
 use Rattle.base.specs.Choose.{choose, choose-of}
-use Rattle.base.specs.Bits.{Has, bit}
+use Rattle.base.specs.Bits.{Has, has?}
 use Rattle.base.specs.Blocks.{zeros, byte-zeros}
 use Rattle.grammar.specs.Limits.{maxTerminals, maxNonterminals}
 use Rattle.grammar.specs.Grammar.{Grammar, Rule, Nonterminal, WellFormed}
@@ -125,9 +125,6 @@ analysed G f =
     (q .0, rw (rows-grammar G f) at k)
 
 -- ---- decided
-
-has? : (m a : ℕ) → Dec (Has m a)
-has? m a = by-cases (ℕ-discrete (bit a m) 1) (λ e. yes (record { is = e })) (λ n. no (λ h. n (h .is)))
 
 by-bit : {P : Type 0} {m a : ℕ} → Has m a ↔ P → Dec P
 by-bit {m = m} {a = a} e = by-cases (has? m a) (λ h. yes (e .0 h)) (λ n. no (λ p. n (e .1 p)))

@@ -1,4 +1,3 @@
 pub mod Tables
-pub mod Paths
-pub mod Stems
 pub mod One
+pub mod Cells

@@ -12,7 +12,7 @@ use Rattle.grammar.specs.Grammar.{Grammar}
 use Rattle.grammar.specs.Prediction.{Predicts, Highest, Break, not-first, both-first, may-vanish, no-break, Prepared}
 use Rattle.grammar.specs.Single.{ll1-one}
 use Rattle.tables.specs.Tables.{tableRows, columns, predictionsSize, breaksSize, tablesSize, rowSymbol, predictionPlace, breakPlace, Prediction, some, none, Tables}
-use Rattle.tables.specs.Stems.{stem-one}
+use Rattle.predictions.specs.Stems.{stem-one}
 
 -- the highest shared symbol is one only
 pub highest-one : {x x' : ℕ} {s s' : List ℕ} → Highest x s s' → Highest x' s s' → x ≡ x'

@@ -11,7 +11,7 @@ use Rattle.grammar.specs.Single.{ll1-one}
 use Rattle.grammar.specs.Rules.{rule-left}
 use Rattle.sets.specs.Closures.{Vanish, vanish-steps, steps-vanish, Begin, begin-first, first-begin, After, follow-after, after-follow}
 use Rattle.sets.specs.Decidable.{useful-reachable}
-use Rattle.tables.specs.Paths.{Chosen, by-begin, by-after, Single, Path, p-end, p-down, path-begin, begin-path, unique, On, here, below, once, agree}
+use Rattle.predictions.specs.Paths.{Chosen, by-begin, by-after, Single, Path, p-end, p-down, path-begin, begin-path, unique, On, here, below, once, agree}
 
 -- ---- the closures' stems are the stems
 

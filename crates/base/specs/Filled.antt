@@ -1,0 +1,49 @@
+-- Tables written cell by cell: the cells of a run hold a function's values, and the others are as they were.
+use Prim.Native.Nat.{ℕ, _+_, _-_, _≤_, _<_}
+use mathlib.Core.Path.{_≡_, refl, sym, ap, _∙_}
+use mathlib.Core.List.{List}
+use mathlib.Core.Logic.{by-cases, _⊎_, inl, inr}
+use lib.ListN.{length, getD, set, length-set}
+use lib.Seq.{getD-set-same, getD-set-other}
+use native.Mathlib.Decide.{ℕ-discrete, decLt}
+use native.Mathlib.Omega.{arith}
+
+-- k cells from `at` on hold f; w' is else as w was
+pub record Filled (f : ℕ → ℕ) (at k : ℕ) (w w' : List ℕ) : Type 0 where
+  pub long : length w' ≡ length w
+  pub inside : (i : ℕ) → i < k → getD w' (at + i) 0 ≡ f i
+  pub before : (j : ℕ) → j < at → getD w' j 0 ≡ getD w j 0
+  pub behind : (j : ℕ) → at + k ≤ j → getD w' j 0 ≡ getD w j 0
+
+module _ (f : ℕ → ℕ) (at : ℕ) (w : List ℕ) where
+  pub filled-none : Filled f at 0 w w
+  filled-none = record { long = refl; inside = λ i l. absurd (omega arith); before = λ j l. refl; behind = λ j l. refl }
+
+  pub filled-more : (w' : List ℕ) (k v : ℕ) → at + k < length w' → v ≡ f k → Filled f at k w w' → Filled f at (k + 1) w (set w' (at + k) v)
+  filled-more w' k v l e h =
+      record {
+        long = simp length-set (h .long);
+        inside = λ i m. by-cases (ℕ-discrete i k) (λ q. rw (q, getD-set-same w' (at + k) v 0 l) e)
+            (λ q. getD-set-other w' (at + k) (at + i) v 0 (omega arith) ∙ h .inside i (omega arith));
+        before = λ j m. getD-set-other w' (at + k) j v 0 (omega arith) ∙ h .before j m;
+        behind = λ j m. getD-set-other w' (at + k) j v 0 (omega arith) ∙ h .behind j (omega arith);
+      }
+
+  pub filled-all : (w' : List ℕ) (k n : ℕ) → n ≤ k → k ≤ n → Filled f at k w w' → Filled f at n w w'
+  filled-all w' k n l m h = let q : k ≡ n = omega arith in rw q at h
+
+  -- a run behind a run
+  pub filled-join : (w' w'' : List ℕ) (g : ℕ → ℕ) (k m at' : ℕ) → at' ≡ at + k → ((i : ℕ) → i < m → g i ≡ f (k + i)) → Filled f at k w w' → Filled g at' m w' w'' → Filled f at (k + m) w w''
+  filled-join w' w'' g k m at' q e h u =
+      record {
+        long = u .long ∙ h .long;
+        inside = λ i l. by-cases (decLt i k)
+            (λ x. u .before (at + i) (omega arith) ∙ h .inside i x)
+            (λ x. let y : at + i ≡ at' + (i - k) = omega arith in
+            let z : k + (i - k) ≡ i = omega arith in
+            ap (λ (j : ℕ). getD w'' j 0) y ∙ u .inside (i - k) (omega arith) ∙ e (i - k) (omega arith) ∙ ap f z);
+        before = λ j l. u .before j (omega arith) ∙ h .before j l;
+        behind = λ j l. u .behind j (omega arith) ∙ h .behind j (omega arith);
+      }
+
+pub ruleset filling = (filled-none, filled-more, filled-all)

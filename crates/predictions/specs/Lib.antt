@@ -1,0 +1,5 @@
+pub mod Paths
+pub mod Stems
+pub mod Hits
+pub mod Listing
+pub mod Idle
