@@ -3,3 +3,4 @@ pub mod Stems
 pub mod Hits
 pub mod Listing
 pub mod Idle
+pub mod Verdict

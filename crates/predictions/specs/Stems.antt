@@ -4,8 +4,8 @@ use mathlib.Core.Path.{_≡_, refl, sym, ap, _∙_}
 use mathlib.Core.Logic.{_↔_}
 use mathlib.Core.List.{List, [], _∷_, _++_, List·Memᴰ, List·Memᴰ·head, List·Memᴰ·tail}
 use native.Mathlib.Omega.{arith}
-use Rattle.grammar.specs.Grammar.{Grammar, Rule, Terminal, Nonterminal}
-use Rattle.grammar.specs.Derivation.{First, Follow, Reachable}
+use Rattle.grammar.specs.Grammar.{Grammar, Rule, Terminal, Nonterminal, WellFormed}
+use Rattle.grammar.specs.Derivation.{First, Follow, Reachable, Useless}
 use Rattle.grammar.specs.Prediction.{Predicts, by-first, by-follow, Stem, ends, down, Prepared}
 use Rattle.grammar.specs.Single.{ll1-one}
 use Rattle.grammar.specs.Rules.{rule-left}
@@ -24,25 +24,28 @@ module _ {G : Grammar} {a : ℕ} where
   stem-path (ends t) = p-end t
   stem-path (down α β r v h) = p-down α β r refl (steps-vanish v) (stem-path h)
 
--- ---- a prepared grammar
+-- ---- predictors by the closures are predictors, where no nonterminal is useless
 
-module _ {G : Grammar} (ok : Prepared G) where
+module _ {G : Grammar} (f : WellFormed G) (useful : (M : ℕ) → Useless G M → ⊥) where
   pub reach : (p N : ℕ) (γ : List ℕ) → Rule G p N γ → Reachable G N
-  reach p N γ r = useful-reachable G (ok .formed) (ok .useful) N (rule-left (ok .formed) r)
+  reach p N γ r = useful-reachable G f useful N (rule-left f r)
 
   pub chosen-predicts : {M a p : ℕ} {γ : List ℕ} → Rule G p M γ → Chosen G a M γ → Predicts G M a p
   chosen-predicts r (by-begin b) = by-first r (begin-first b)
   chosen-predicts r (by-after v c) = by-follow r (vanish-steps v) (after-follow reach c)
 
-  pub predicts-chosen : {M a p : ℕ} → Predicts G M a p → (γ : List ℕ) × Rule G p M γ × Chosen G a M γ
-  predicts-chosen (by-first {γ = γ} r f) = (γ, r, by-begin (first-begin f))
-  predicts-chosen (by-follow {γ = γ} r n f) = (γ, r, by-after (steps-vanish n) (follow-after f))
+pub predicts-chosen : {G : Grammar} {M a p : ℕ} → Predicts G M a p → (γ : List ℕ) × Rule G p M γ × Chosen G a M γ
+predicts-chosen (by-first {γ = γ} r f) = (γ, r, by-begin (first-begin f))
+predicts-chosen (by-follow {γ = γ} r n f) = (γ, r, by-after (steps-vanish n) (follow-after f))
 
+-- ---- a prepared grammar
+
+module _ {G : Grammar} (ok : Prepared G) where
   pub single : Single G
   single =
       record {
         left = λ p M γ r. rule-left (ok .formed) r .0;
-        same = λ a M p q γ δ r r' x y. ll1-one (ok .ll1) (chosen-predicts r x) (chosen-predicts r' y);
+        same = λ a M p q γ δ r r' x y. ll1-one (ok .ll1) (chosen-predicts (ok .formed) (ok .useful) r x) (chosen-predicts (ok .formed) (ok .useful) r' y);
       }
 
   -- the stem from M to a exists exactly for a in FIRST(M)
