@@ -1,3 +1,5 @@
 pub mod Tables
 pub mod One
 pub mod Cells
+pub mod Short
+pub mod Points
