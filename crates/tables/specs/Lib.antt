@@ -3,3 +3,4 @@ pub mod One
 pub mod Cells
 pub mod Short
 pub mod Points
+pub mod Writing

@@ -1,1 +1,121 @@
-// x
+// The tables of a grammar: predictions, then break points. For a fixed lookahead the stems form a tree, so that each symbol has one step down;
+// the symbols of a stem are the bits of a mask, and the highest shared symbol is the first on one stem that is in the other's mask.
+ghost use mathlib.Core.Path.{_≡_};
+ghost use Prim.Native.Nat.{_+_, _-_, _*_, _<_, _≤_};
+ghost use lib.ListN.{length};
+ghost use Rattle.base.specs.Filled.{Filled};
+ghost use Rattle.grammar.specs.Limits.{maxTerminals, maxNonterminals};
+ghost use Rattle.grammar.specs.Rows.{symbolSpace};
+ghost use Rattle.grammar.specs.RowRules.{bodyAt};
+ghost use Rattle.sets.specs.Words.{setsSize};
+ghost use Rattle.predictions.specs.Hits.{hasb};
+ghost use Rattle.tables.specs.Tables.{columns, predictionsSize, breaksSize, tablesSize};
+ghost use Rattle.tables.specs.Cells.{lead as leadm, stepOf, next as nextm, stemBits, maskOf, sharedFrom, pointOf, entryOf};
+ghost use Rattle.tables.specs.Writing.{Broken, Laid};
+
+const COLUMNS: usize = 32;
+const BLOCK: usize = COLUMNS * COLUMNS;
+pub const PREDICTIONS_SIZE: usize = BLOCK;
+const BREAKS_SIZE: usize = COLUMNS * BLOCK;
+pub const TABLES_SIZE: usize = PREDICTIONS_SIZE + BREAKS_SIZE;
+const NO_BREAK: usize = 255;
+
+// Whether the symbol x is in the mask.
+fn in_mask(mask: u64, x: usize) -> bool
+    requires { ⌜ x < symbolSpace ⌝ }
+    ensures { λ r. ⌜ r ≡ hasb mask x ⌝ }
+{
+    (mask >> x) % 2 == 1
+}
+
+// The first symbol of the body in row p that a begins, or 0.
+fn lead(rows: &[u8], p: usize, a: usize, sets: &[u32]) -> usize
+    requires { ⌜ (length (now sets) ≡ setsSize) × (a < columns) ⌝ }
+    ensures { λ r. ⌜ (r ≡ leadm (now (sets .entry)) a (bodyAt (now (rows .entry)) p)) × (r < symbolSpace) ⌝ }
+{
+    let len = grammar::length_at(rows, p);
+    let mut j: usize = 0;
+    while j < len {
+        let x = grammar::symbol_at(rows, p, j);
+        if predictions::has(sets[x], a) {
+            return x;
+        }
+        j += 1;
+    }
+    0
+}
+
+// One less, and 0 for 0.
+fn before(v: usize) -> usize
+    ensures { λ r. ⌜ r ≡ v - 1 ⌝ }
+{
+    if v == 0 {
+        return 0;
+    }
+    v - 1
+}
+
+// The symbol below that of cell i's row on its stem to cell i's lookahead.
+fn step_of(rows: &[u8], sets: &[u32], cells: &[u8], t: usize, i: usize) -> u8
+    requires { ⌜ (length (now sets) ≡ setsSize) × (t ≤ maxTerminals) × (i < predictionsSize) ⌝ }
+    ensures { λ r. ⌜ r ≡ stepOf (now (rows .entry)) (now (sets .entry)) (now (cells .entry)) t i ⌝ }
+{
+    let a = i % COLUMNS;
+    if a == 0 {
+        return 0;
+    }
+    if predictions::has(sets[t + 1 + i / COLUMNS], a) {
+        let p = before(base::byte_at(cells, i));
+        return lead(rows, p, a, sets) as u8;
+    }
+    0
+}
+
+fn fill_steps(rows: &[u8], sets: &[u32], cells: &[u8], t: usize, steps: &mut [u8])
+    requires { ⌜ (length (now sets) ≡ setsSize) × (t ≤ maxTerminals) × (length (now steps) ≡ predictionsSize) ⌝ }
+    ensures { λ _. ⌜ Filled (stepOf (now (rows .entry)) (now (sets .entry)) (now (cells .entry)) t) 0 predictionsSize (now (steps .entry)) (now (steps .exit)) ⌝ }
+{
+    let mut i: usize = 0;
+    while i < PREDICTIONS_SIZE {
+        steps[0 + i] = step_of(rows, sets, cells, t, i);
+        i += 1;
+    }
+}
+
+// Down from x, by the steps.
+fn next(steps: &[u8], t: usize, a: usize, x: usize) -> usize
+    requires { ⌜ (t ≤ maxTerminals) × (a < columns) × (x < symbolSpace) × (t < x) ⌝ }
+    ensures { λ r. ⌜ (r ≡ nextm (now (steps .entry)) t a x) × (r < symbolSpace) ⌝ }
+{
+    base::byte_at(steps, (x - t - 1) * COLUMNS + a) % grammar::SYMBOL_SPACE
+}
+
+// The symbols of the stem from x to a, as bits.
+fn stem_bits(steps: &[u8], t: usize, a: usize, from: usize) -> u64
+    requires { ⌜ (t ≤ maxTerminals) × (a < columns) × (from < symbolSpace) ⌝ }
+    ensures { λ r. ⌜ r ≡ stemBits (now (steps .entry)) t a symbolSpace from 0 ⌝ }
+{
+    let mut x = from;
+    let mut acc: u64 = 0;
+    let mut k: usize = grammar::SYMBOL_SPACE;
+    while 0 < k {
+        k -= 1;
+        acc = acc | (1 << x);
+        if x <= t {
+            return acc;
+        }
+        x = next(steps, t, a, x);
+    }
+    acc
+}
+
+fn fill_masks(steps: &[u8], t: usize, n: usize, masks: &mut [u64])
+    requires { ⌜ (t ≤ maxTerminals) × (n ≤ maxNonterminals) × (length (now masks) ≡ predictionsSize) ⌝ }
+    ensures { λ _. ⌜ Filled (maskOf (now (steps .entry)) t) 0 (n * columns) (now (masks .entry)) (now (masks .exit)) ⌝ }
+{
+    let mut i: usize = 0;
+    while i < n * COLUMNS {
+        masks[0 + i] = stem_bits(steps, t, i % COLUMNS, t + 1 + i / COLUMNS);
+        i += 1;
+    }
+}

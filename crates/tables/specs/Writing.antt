@@ -1,0 +1,176 @@
+-- The laws that the code's proofs cite: the loops down a body and down a stem, and how the entries fill the tables.
+use Prim.Native.Nat.{ℕ, zero, suc, _+_, _-_, _*_, _/_, _%_, _^_, _≤_, _<_, min}
+use mathlib.Core.Path.{_≡_, refl, sym, ap, ap₂, _∙_}
+use mathlib.Core.Bool.{Bool, true, false}
+use mathlib.Core.Logic.{by-cases}
+use mathlib.Core.List.{List, [], _∷_, _++_, append-nil}
+use lib.ListN.{length, getD, take, drop, length-append, length-drop, drop-of-length-le, List·getD-append}
+use lib.Seq.{take-at, drop-at, length-take-le, getD-take, getD-drop, getD-append-add, take-length}
+use lib.Dec.{eqb, leb}
+use lib.Bits.{bitOr}
+use lib.Pow.{pow-lt}
+use borrow.Author.Tests.{le-leb, lt-leb, eq-eqb, ne-eqb}
+use native.Mathlib.Nat.{mod-eq-of-lt}
+use native.Mathlib.Decide.{decLt, ℕ-discrete}
+use native.Mathlib.Omega.{arith}
+use Rattle.base.specs.Choose.{choose}
+use Rattle.base.specs.Blocks.{zeros, byte-zeros, length-zeros, copied}
+use Rattle.base.specs.Filled.{Filled}
+use Rattle.grammar.specs.Rows.{symbolSpace, lengthAt, symbolAt, symbolsFrom}
+use Rattle.grammar.specs.RowRules.{bodyAt}
+use Rattle.predictions.specs.Hits.{hasb}
+use Rattle.tables.specs.Tables.{tableRows, columns, predictionsSize, breaksSize, tablesSize, predictionPlace, breakPlace}
+use Rattle.tables.specs.Cells.{lead, stepOf, next, stemBits, sharedFrom, entryOf}
+
+-- ---- the first symbol that a begins
+
+pub record LeadAt (rows s : List ℕ) (p a j : ℕ) : Type 0 where
+  pub is : lead s a (symbolsFrom rows p (lengthAt rows p - j) j) ≡ lead s a (bodyAt rows p)
+
+module _ (rows s : List ℕ) (p a : ℕ) where
+  pub lead-start : LeadAt rows s p a 0
+  lead-start = let q : lengthAt rows p - 0 ≡ lengthAt rows p = omega arith in record { is = rw q }
+
+  opened : (j : ℕ) → j < lengthAt rows p → symbolsFrom rows p (lengthAt rows p - j) j ≡ symbolAt rows p j ∷ symbolsFrom rows p (lengthAt rows p - (j + 1)) (j + 1)
+  opened j l = let q : lengthAt rows p - j ≡ suc (lengthAt rows p - (j + 1)) = omega arith in rw q
+
+  pub lead-found : (j x : ℕ) (b : Bool) → j < lengthAt rows p → x ≡ symbolAt rows p j → b ≡ hasb (getD s x 0) a → b ≡ true → LeadAt rows s p a j → x ≡ lead s a (bodyAt rows p)
+  unfolding lead choose
+  lead-found j x b l e f t h =
+      let z : hasb (getD s (symbolAt rows p j) 0) a ≡ true = rw (← e, ← f) t in
+      e ∙ rw (opened j l, z) at (h .is)
+
+  pub lead-on : (j x : ℕ) (b : Bool) → j < lengthAt rows p → x ≡ symbolAt rows p j → b ≡ hasb (getD s x 0) a → b ≡ false → LeadAt rows s p a j → LeadAt rows s p a (j + 1)
+  unfolding lead choose
+  lead-on j x b l e f t h =
+      let z : hasb (getD s (symbolAt rows p j) 0) a ≡ false = rw (← e, ← f) t in
+      record { is = rw (opened j l, z) at (h .is) }
+
+  pub lead-none : (j : ℕ) → lengthAt rows p ≤ j → LeadAt rows s p a j → 0 ≡ lead s a (bodyAt rows p)
+  unfolding lead
+  lead-none j l h = let q : lengthAt rows p - j ≡ 0 = omega arith in rw q at (h .is)
+
+pub ruleset leading = (lead-start, lead-found, lead-on, lead-none)
+
+-- ---- the step of a cell
+
+module _ (rows s cells : List ℕ) (t i : ℕ) where
+  pub step-end : i % columns ≡ 0 → 0 ≡ stepOf rows s cells t i
+  unfolding stepOf choose
+  step-end e = rw (eq-eqb (i % columns) 0 e)
+
+  pub step-lead : (x v p : ℕ) (b : Bool) → (i % columns ≡ 0 → ⊥) → b ≡ hasb (getD s (t + 1 + i / columns) 0) (i % columns) → b ≡ true → v ≡ getD cells i 0 → p ≡ v - 1
+      → x ≡ lead s (i % columns) (bodyAt rows p) → x ≡ stepOf rows s cells t i
+  unfolding stepOf choose
+  step-lead x v p b n e f g h k = rw (ne-eqb (i % columns) 0 n, ← e, f) (k ∙ ap (λ (q : ℕ). lead s (i % columns) (bodyAt rows q)) (h ∙ ap (λ (q : ℕ). q - 1) g))
+
+  pub step-none : (b : Bool) → (i % columns ≡ 0 → ⊥) → b ≡ hasb (getD s (t + 1 + i / columns) 0) (i % columns) → b ≡ false → 0 ≡ stepOf rows s cells t i
+  unfolding stepOf choose
+  step-none b n e f = rw (ne-eqb (i % columns) 0 n, ← e, f)
+
+pub ruleset stepping = (step-end, step-lead, step-none)
+
+-- ---- down a stem
+
+pub shift-one : (x : ℕ) → x < symbolSpace → 1 * 2 ^ x % 2 ^ 64 ≡ 2 ^ x
+shift-one x l = mod-eq-of-lt (omega (arith, pow-lt {i = x} {j = 64} l)) ∙ omega arith
+
+module _ (steps : List ℕ) (t a : ℕ) where
+  pub stem-last : (k x acc X : ℕ) → 0 < k → x < symbolSpace → x ≤ t → X ≡ stemBits steps t a k x acc → bitOr acc (1 * 2 ^ x % 2 ^ 64) ≡ X
+  unfolding stemBits choose
+  stem-last zero x acc X w l m h = absurd (omega arith)
+  stem-last (suc k) x acc X w l m h = ap (bitOr acc) (shift-one x l) ∙ sym (rw (le-leb x t m) at h)
+
+  pub stem-on : (k x y acc X : ℕ) → 0 < k → x < symbolSpace → t < x → y ≡ next steps t a x → X ≡ stemBits steps t a k x acc
+      → X ≡ stemBits steps t a (k - 1) y (bitOr acc (1 * 2 ^ x % 2 ^ 64))
+  unfolding stemBits choose
+  stem-on zero x y acc X w l m f h = absurd (omega arith)
+  stem-on (suc k) x y acc X w l m f h =
+      let q : suc k - 1 ≡ k = omega arith in
+      rw (q, f, shift-one x l) (rw (lt-leb x t m) at h)
+
+  pub stem-done : (k x acc X : ℕ) → k ≤ 0 → X ≡ stemBits steps t a k x acc → acc ≡ X
+  unfolding stemBits
+  stem-done k x acc X l h = let q : k ≡ 0 = omega arith in sym (rw q at h)
+
+  module _ (mask : ℕ) where
+    pub shared-here : (k x X : ℕ) (b : Bool) → 0 < k → b ≡ hasb mask x → b ≡ true → X ≡ sharedFrom steps t a mask k x → x ≡ X
+    unfolding sharedFrom choose
+    shared-here zero x X b w e f h = absurd (omega arith)
+    shared-here (suc k) x X b w e f h = sym (rw (← e, f) at h)
+
+    pub shared-on : (k x y X : ℕ) (b : Bool) → 0 < k → b ≡ hasb mask x → b ≡ false → y ≡ next steps t a x → X ≡ sharedFrom steps t a mask k x → X ≡ sharedFrom steps t a mask (k - 1) y
+    unfolding sharedFrom choose
+    shared-on zero x y X b w e f g h = absurd (omega arith)
+    shared-on (suc k) x y X b w e f g h = let q : suc k - 1 ≡ k = omega arith in rw (q, g) (rw (← e, f) at h)
+
+    pub shared-done : (k x X : ℕ) → k ≤ 0 → X ≡ sharedFrom steps t a mask k x → 0 ≡ X
+    unfolding sharedFrom
+    shared-done k x X l h = let q : k ≡ 0 = omega arith in sym (rw q at h)
+
+-- ---- the break points, row by row onto zeros
+
+-- rows below r are written, and all else is 0
+pub record Broken (f : ℕ → ℕ → ℕ) (n r : ℕ) (w : List ℕ) : Type 0 where
+  pub long : length w ≡ breaksSize
+  pub done : (R Q a : ℕ) → R < r → Q < n → a < columns → getD w (breakPlace R Q a) 0 ≡ f R (Q * columns + a)
+  pub other : (R Q a : ℕ) → R < tableRows → Q < tableRows → a < columns → (R < r → Q < n → ⊥) → getD w (breakPlace R Q a) 0 ≡ 0
+
+module _ (f : ℕ → ℕ → ℕ) (n : ℕ) where
+  pub broken-none : (w : List ℕ) (m : ℕ) → m ≡ breaksSize → w ≡ zeros m → Broken f n 0 w
+  broken-none w m l e =
+      record {
+        long = ap length e ∙ length-zeros m ∙ l;
+        done = λ R Q a x. absurd (omega arith);
+        other = λ R Q a x y z h. ap (λ (u : List ℕ). getD u (breakPlace R Q a) 0) e ∙ byte-zeros m (breakPlace R Q a);
+      }
+
+  pub broken-more : (w w' : List ℕ) (r : ℕ) → n ≤ tableRows → r < tableRows → Broken f n r w → Filled (f r) (r * 1024) (n * columns) w w' → Broken f n (r + 1) w'
+  broken-more w w' r ln lr h u =
+      record {
+        long = u .long ∙ h .long;
+        done = λ R Q a x y z. by-cases (ℕ-discrete R r)
+            (λ e. let q : breakPlace R Q a ≡ r * 1024 + (Q * columns + a) = omega arith in
+            ap (λ (i : ℕ). getD w' i 0) q ∙ u .inside (Q * columns + a) (omega arith) ∙ ap (λ (i : ℕ). f i (Q * columns + a)) (sym e))
+            (λ e. u .before (breakPlace R Q a) (omega arith) ∙ h .done R Q a (omega arith) y z);
+        other = λ R Q a x y z g.
+            let same : getD w' (breakPlace R Q a) 0 ≡ getD w (breakPlace R Q a) 0 =
+                by-cases (decLt R r) (λ m. u .before (breakPlace R Q a) (omega arith))
+                (λ m. by-cases (ℕ-discrete R r) (λ e. u .behind (breakPlace R Q a) (omega (arith, g (omega arith)))) (λ e. u .behind (breakPlace R Q a) (omega arith)))
+            in
+            same ∙ h .other R Q a x y z (λ m q. g (omega arith) q);
+      }
+
+  pub broken-all : (w : List ℕ) (r : ℕ) → n ≤ r → r ≤ n → Broken f n r w → Broken f n n w
+  broken-all w r l m h = let q : r ≡ n = omega arith in rw q at h
+
+-- ---- the two parts
+
+-- the predictions, then the break points
+pub record Laid (cells : List ℕ) (f : ℕ → ℕ → ℕ) (n : ℕ) (w : List ℕ) : Type 0 where
+  pub long : length w ≡ tablesSize
+  pub front : (i : ℕ) → i < predictionsSize → getD w i 0 ≡ getD cells i 0
+  pub back : Broken f n n (drop predictionsSize w)
+
+front-copied : (cells w₀ : List ℕ) → length w₀ ≡ tablesSize → length cells ≡ predictionsSize → copied w₀ 0 cells ≡ cells ++ drop predictionsSize w₀
+unfolding copied
+front-copied cells w₀ l c =
+    let m : min (length cells) (length w₀ - 0) ≡ length cells = omega arith in
+    let z : 0 + length cells ≡ predictionsSize = omega arith in
+    rw (m, take-length cells, z)
+
+-- as `&mut w[1024..]` leaves it, where the break-point writer left b in the part
+pub laid : (cells : List ℕ) (f : ℕ → ℕ → ℕ) (n : ℕ) (w₀ w b : List ℕ) → length w₀ ≡ tablesSize → length cells ≡ predictionsSize → w ≡ copied w₀ 0 cells → Broken f n n b
+    → Laid cells f n (take predictionsSize w ++ (b ++ drop (length w - predictionsSize) (drop predictionsSize w)))
+laid cells f n w₀ w b l c e h =
+    let v : w ≡ cells ++ drop predictionsSize w₀ = e ∙ front-copied cells w₀ l c in
+    let lw : length w ≡ tablesSize = ap length v ∙ length-append cells (drop predictionsSize w₀) ∙ omega (arith, length-drop predictionsSize w₀) in
+    let q : drop (length w - predictionsSize) (drop predictionsSize w) ≡ [] = drop-of-length-le (drop predictionsSize w) {i = length w - predictionsSize} (omega (arith, length-drop predictionsSize w)) in
+    let t : take predictionsSize w ≡ cells = ap (take predictionsSize) v ∙ take-at cells (drop predictionsSize w₀) predictionsSize c in
+    let d : drop predictionsSize (cells ++ b) ≡ b = drop-at cells b predictionsSize c in
+    rw (q, append-nil b, t)
+    (record {
+      long = length-append cells b ∙ omega (arith, h .long);
+      front = λ i m. List·getD-append cells b 0 i (omega arith);
+      back = rw d h;
+    })
