@@ -20,7 +20,9 @@ use Rattle.grammar.specs.Rows.{symbolSpace, lengthAt, symbolAt, symbolsFrom}
 use Rattle.grammar.specs.RowRules.{bodyAt}
 use Rattle.predictions.specs.Hits.{hasb}
 use Rattle.tables.specs.Tables.{tableRows, columns, predictionsSize, breaksSize, tablesSize, predictionPlace, breakPlace}
-use Rattle.tables.specs.Cells.{lead, stepOf, next, stemBits, sharedFrom, entryOf}
+use Rattle.grammar.specs.Prediction.{noBreak}
+use Rattle.sets.specs.Words.{follows}
+use Rattle.tables.specs.Cells.{lead, stepOf, next, stemBits, sharedFrom, pointOf, entryOf}
 
 -- ---- the first symbol that a begins
 
@@ -74,6 +76,15 @@ pub ruleset stepping = (step-end, step-lead, step-none)
 
 pub shift-one : (x : ℕ) → x < symbolSpace → 1 * 2 ^ x % 2 ^ 64 ≡ 2 ^ x
 shift-one x l = mod-eq-of-lt (omega (arith, pow-lt {i = x} {j = 64} l)) ∙ omega arith
+
+-- at a terminal there is no step: the model takes row 0 there
+pub next-low : (steps : List ℕ) (t a x v : ℕ) → x ≤ t → v ≡ getD steps a 0 → v % symbolSpace ≡ next steps t a x
+unfolding next
+next-low steps t a x v l e = let q : (x - t - 1) * columns + a ≡ a = omega arith in rw (q, e)
+
+pub next-down : (steps : List ℕ) (t a x v : ℕ) → v ≡ getD steps ((x - t - 1) * columns + a) 0 → v % symbolSpace ≡ next steps t a x
+unfolding next
+next-down steps t a x v e = rw e
 
 module _ (steps : List ℕ) (t a : ℕ) where
   pub stem-last : (k x acc X : ℕ) → 0 < k → x < symbolSpace → x ≤ t → X ≡ stemBits steps t a k x acc → bitOr acc (1 * 2 ^ x % 2 ^ 64) ≡ X
@@ -174,3 +185,34 @@ laid cells f n w₀ w b l c e h =
       front = λ i m. List·getD-append cells b 0 i (omega arith);
       back = rw d h;
     })
+
+-- ---- the ways through a break point
+
+module _ (s steps : List ℕ) (t M N a mask : ℕ) where
+  pub point-end : a ≡ 0 → 0 ≡ pointOf s steps t M N a mask
+  unfolding pointOf choose
+  point-end e = rw (eq-eqb a 0 e)
+
+  module _ (n : a ≡ 0 → ⊥) (b : Bool) (eb : b ≡ hasb (getD s N 0) a) where
+    pub point-not : b ≡ false → 0 ≡ pointOf s steps t M N a mask
+    unfolding pointOf choose
+    point-not f = rw (ne-eqb a 0 n, ← eb, f)
+
+    module _ (yes : b ≡ true) (c : Bool) (ec : c ≡ hasb (getD s M 0) a) where
+      pub point-both : (x : ℕ) → c ≡ true → x ≡ sharedFrom steps t a mask symbolSpace M → x ≡ pointOf s steps t M N a mask
+      unfolding pointOf choose
+      point-both x f e = rw (ne-eqb a 0 n, ← eb, yes, ← ec, f) e
+
+      pub point-follow : (d : Bool) → c ≡ false → getD s M 0 % 2 ≡ 1 → d ≡ hasb (getD s (follows + M) 0) a → d ≡ true → N ≡ pointOf s steps t M N a mask
+      unfolding pointOf choose
+      point-follow d f e g h = rw (ne-eqb a 0 n, ← eb, yes, ← ec, f, eq-eqb (getD s M 0 % 2) 1 e, ← g, h)
+
+      pub point-never : (d : Bool) → c ≡ false → getD s M 0 % 2 ≡ 1 → d ≡ hasb (getD s (follows + M) 0) a → d ≡ false → noBreak ≡ pointOf s steps t M N a mask
+      unfolding pointOf choose
+      point-never d f e g h = rw (ne-eqb a 0 n, ← eb, yes, ← ec, f, eq-eqb (getD s M 0 % 2) 1 e, ← g, h)
+
+      pub point-stuck : c ≡ false → (getD s M 0 % 2 ≡ 1 → ⊥) → noBreak ≡ pointOf s steps t M N a mask
+      unfolding pointOf choose
+      point-stuck f e = rw (ne-eqb a 0 n, ← eb, yes, ← ec, f, ne-eqb (getD s M 0 % 2) 1 e)
+
+pub ruleset pointing = (point-end, point-not, point-both, point-follow, point-never, point-stuck)

@@ -84,9 +84,12 @@ fn fill_steps(rows: &[u8], sets: &[u32], cells: &[u8], t: usize, steps: &mut [u8
 
 // Down from x, by the steps.
 fn next(steps: &[u8], t: usize, a: usize, x: usize) -> usize
-    requires { ⌜ (t ≤ maxTerminals) × (a < columns) × (x < symbolSpace) × (t < x) ⌝ }
+    requires { ⌜ (t ≤ maxTerminals) × (a < columns) × (x < symbolSpace) ⌝ }
     ensures { λ r. ⌜ (r ≡ nextm (now (steps .entry)) t a x) × (r < symbolSpace) ⌝ }
 {
+    if x <= t {
+        return base::byte_at(steps, a) % grammar::SYMBOL_SPACE;
+    }
     base::byte_at(steps, (x - t - 1) * COLUMNS + a) % grammar::SYMBOL_SPACE
 }
 
@@ -118,4 +121,79 @@ fn fill_masks(steps: &[u8], t: usize, n: usize, masks: &mut [u64])
         masks[0 + i] = stem_bits(steps, t, i % COLUMNS, t + 1 + i / COLUMNS);
         i += 1;
     }
+}
+
+// The first symbol from x down to a that is in the mask.
+fn shared(steps: &[u8], t: usize, a: usize, mask: u64, from: usize) -> usize
+    requires { ⌜ (t ≤ maxTerminals) × (a < columns) × (from < symbolSpace) ⌝ }
+    ensures { λ r. ⌜ (r ≡ sharedFrom (now (steps .entry)) t a mask symbolSpace from) × (r < symbolSpace) ⌝ }
+{
+    let mut x = from;
+    let mut k: usize = grammar::SYMBOL_SPACE;
+    while 0 < k {
+        if in_mask(mask, x) {
+            return x;
+        }
+        x = next(steps, t, a, x);
+        k -= 1;
+    }
+    0
+}
+
+// The break point of m and n at a; `mask` has the symbols of n's stem.
+fn point(sets: &[u32], steps: &[u8], t: usize, m: usize, n: usize, a: usize, mask: u64) -> usize
+    requires { ⌜ (length (now sets) ≡ setsSize) × (t ≤ maxTerminals) × (m < symbolSpace) × (n < symbolSpace) × (a < columns) ⌝ }
+    ensures { λ r. ⌜ (r ≡ pointOf (now (sets .entry)) (now (steps .entry)) t m n a mask) × (r < 256) ⌝ }
+{
+    if a == 0 {
+        return 0;
+    }
+    let word = sets[m];
+    if predictions::has(sets[n], a) {
+        if predictions::has(word, a) {
+            return shared(steps, t, a, mask, m);
+        }
+        if word % 2 == 1 {
+            if predictions::has(sets[sets::FOLLOWS + m], a) {
+                return n;
+            }
+        }
+        return NO_BREAK;
+    }
+    0
+}
+
+// The break points of row r.
+fn fill_row(sets: &[u32], steps: &[u8], masks: &[u64], t: usize, n: usize, r: usize, w: &mut [u8])
+    requires { ⌜ (length (now sets) ≡ setsSize) × (length (now masks) ≡ predictionsSize) × (t ≤ maxTerminals) × (n ≤ maxNonterminals) × (r < n) × (length (now w) ≡ breaksSize) ⌝ }
+    ensures { λ _. ⌜ Filled (entryOf (now (sets .entry)) (now (steps .entry)) (now (masks .entry)) t r) (r * 1024) (n * columns) (now (w .entry)) (now (w .exit)) ⌝ }
+{
+    let mut i: usize = 0;
+    while i < n * COLUMNS {
+        let v = point(sets, steps, t, t + 1 + r, t + 1 + i / COLUMNS, i % COLUMNS, masks[i]);
+        w[r * BLOCK + i] = v as u8;
+        i += 1;
+    }
+}
+
+// All break points, onto zeros.
+fn write_breaks(sets: &[u32], steps: &[u8], masks: &[u64], t: usize, n: usize, w: &mut [u8])
+    requires { ⌜ (length (now sets) ≡ setsSize) × (length (now masks) ≡ predictionsSize) × (t ≤ maxTerminals) × (n ≤ maxNonterminals) × (length (now w) ≡ breaksSize) ⌝ }
+    ensures { λ _. ⌜ Broken (entryOf (now (sets .entry)) (now (steps .entry)) (now (masks .entry)) t) n n (now (w .exit)) ⌝ }
+{
+    base::zero(w);
+    let mut r: usize = 0;
+    while r < n {
+        fill_row(sets, steps, masks, t, n, r, w);
+        r += 1;
+    }
+}
+
+// The predictions in the cells, then the break points. The tail of the lent tables, from byte 1,024, is lent on to the break-point writer.
+fn lay(sets: &[u32], cells: &[u8], steps: &[u8], masks: &[u64], t: usize, n: usize, tables: &mut [u8])
+    requires { ⌜ (length (now sets) ≡ setsSize) × (length (now cells) ≡ predictionsSize) × (length (now masks) ≡ predictionsSize) × (t ≤ maxTerminals) × (n ≤ maxNonterminals) × (length (now tables) ≡ tablesSize) ⌝ }
+    ensures { λ _. ⌜ Laid (now (cells .entry)) (entryOf (now (sets .entry)) (now (steps .entry)) (now (masks .entry)) t) n (now (tables .exit)) ⌝ }
+{
+    base::copy(tables, 0, cells);
+    write_breaks(sets, steps, masks, t, n, &mut tables[PREDICTIONS_SIZE..]);
 }
