@@ -4,3 +4,4 @@ pub mod Cells
 pub mod Short
 pub mod Points
 pub mod Writing
+pub mod Outcome

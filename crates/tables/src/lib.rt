@@ -5,11 +5,12 @@ ghost use Prim.Native.Nat.{_+_, _-_, _*_, _<_, _≤_};
 ghost use lib.ListN.{length};
 ghost use Rattle.base.specs.Filled.{Filled};
 ghost use Rattle.grammar.specs.Limits.{maxTerminals, maxNonterminals};
-ghost use Rattle.grammar.specs.Rows.{symbolSpace};
+ghost use Rattle.grammar.specs.Rows.{symbolSpace, grammarIn};
 ghost use Rattle.grammar.specs.RowRules.{bodyAt};
 ghost use Rattle.sets.specs.Words.{setsSize};
 ghost use Rattle.predictions.specs.Hits.{hasb};
-ghost use Rattle.tables.specs.Tables.{columns, predictionsSize, breaksSize, tablesSize};
+ghost use Rattle.tables.specs.Tables.{columns, predictionsSize, breaksSize, tablesSize, Tables};
+ghost use Rattle.tables.specs.Outcome.{Ready};
 ghost use Rattle.tables.specs.Cells.{lead as leadm, stepOf, next as nextm, stemBits, maskOf, sharedFrom, pointOf, entryOf};
 ghost use Rattle.tables.specs.Writing.{Broken, Laid};
 
@@ -196,4 +197,25 @@ fn lay(sets: &[u32], cells: &[u8], steps: &[u8], masks: &[u64], t: usize, n: usi
 {
     base::copy(tables, 0, cells);
     write_breaks(sets, steps, masks, t, n, &mut tables[PREDICTIONS_SIZE..]);
+}
+
+// Writes the tables of the grammar in the rows, which passes replies 1 to 3; `sets` are its words and `cells` its predictions.
+pub fn write_tables(
+    rows: &[u8],
+    t: usize,
+    n: usize,
+    start: usize,
+    count: usize,
+    sets: &[u32],
+    cells: &[u8],
+    tables: &mut [u8],
+)
+    requires { ⌜ Ready (now rows) t n start count (now sets) (now cells) × (length (now tables) ≡ tablesSize) ⌝ }
+    ensures { λ _. ⌜ Tables (grammarIn (now (rows .entry)) t n start count) (now (tables .exit)) ⌝ }
+{
+    let mut steps = [0u8; PREDICTIONS_SIZE];
+    let mut masks = [0u64; PREDICTIONS_SIZE];
+    fill_steps(rows, sets, cells, t, &mut steps);
+    fill_masks(&steps, t, n, &mut masks);
+    lay(sets, cells, &steps, &masks, t, n, tables);
 }
