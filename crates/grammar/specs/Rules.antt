@@ -1,7 +1,7 @@
 -- Rules of a well-formed grammar: a number has one, and each is allowed.
 use mathlib.Core.Path.{_≡_, ap}
 use mathlib.Core.Option.{some}
-use Prim.Native.Nat.{ℕ, zero, suc, _<_, _≤_}
+use Prim.Native.Nat.{ℕ, zero, suc, _≤_}
 use mathlib.Core.List.{List, [], _∷_}
 use lib.ListN.{length}
 use native.Mathlib.Omega.{arith}

@@ -1,23 +1,20 @@
 -- Which lookaheads predict which productions, as bits; and which productions of a nonterminal clash.
-use Prim.Native.Nat.{ℕ, zero, suc, _+_, _-_, _*_, _/_, _%_, _^_, _≤_, _<_}
+use Prim.Native.Nat.{ℕ, suc, _+_, _-_, _/_, _%_, _^_, _≤_, _<_}
 use mathlib.Core.Path.{_≡_, refl, sym, ap, ap₂, _∙_}
 use mathlib.Core.Bool.{Bool, true, false}
-use mathlib.Core.Logic.{_↔_, _⊎_, inl, inr, by-cases}
-use mathlib.Core.List.{List, [], _∷_}
-use lib.ListN.{length, getD}
+use mathlib.Core.Logic.{_↔_, _⊎_, inl, inr}
+use mathlib.Core.List.{List, _∷_}
+use lib.ListN.{getD}
 use lib.Dec.{eqb}
-use borrow.Author.Tests.{eq-eqb, ne-eqb, eqb-true, eqb-false}
-use native.Mathlib.Decide.{ℕ-discrete, decLt}
+use borrow.Author.Tests.{eq-eqb, eqb-true, eqb-false}
 use native.Mathlib.Omega.{arith}
-use Rattle.base.specs.Choose.{choose}
 use Rattle.base.specs.Bits.{Has, shifted-has, has-shifted}
-use Rattle.base.specs.Tells.{Tells}
-use Rattle.grammar.specs.Grammar.{Grammar, Rule}
+use Rattle.grammar.specs.Grammar.{Grammar}
 use Rattle.grammar.specs.Rows.{leftAt, lengthAt, symbolAt, symbolsFrom, grammarIn, left-small, symbols-small}
 use Rattle.grammar.specs.RowRules.{bodyAt}
 use Rattle.sets.specs.Words.{follows, leads, suffix}
-use Rattle.sets.specs.Facts.{leads-says, leads-here, leads-past, Means, gone, begins, gone-of, begins-of}
-use Rattle.sets.specs.Closures.{Vanish, Begin, begin-terminal, After}
+use Rattle.sets.specs.Facts.{leads-says, leads-here, leads-past, gone, begins, gone-of, begins-of}
+use Rattle.sets.specs.Closures.{begin-terminal}
 use Rattle.sets.specs.Known.{Known, known-after, known-suffix}
 use Rattle.predictions.specs.Paths.{Chosen, by-begin, by-after}
 

@@ -1,5 +1,5 @@
 -- The lowest nonterminal that is not both productive and reachable.
-use Prim.Native.Nat.{ℕ, _+_, _-_, _/_, _%_, _≤_, _<_}
+use Prim.Native.Nat.{ℕ, _+_, _-_, _%_, _≤_, _<_}
 use mathlib.Core.Path.{_≡_, refl}
 use mathlib.Core.Logic.{by-cases, _⊎_, inl, inr}
 use mathlib.Core.List.{List}
@@ -7,7 +7,6 @@ use lib.ListN.{getD}
 use native.Mathlib.Decide.{ℕ-discrete}
 use native.Mathlib.Omega.{arith}
 use Rattle.base.specs.Bits.{Has, bit, has?}
-use Rattle.grammar.specs.Limits.{maxTerminals, maxNonterminals}
 use Rattle.grammar.specs.Grammar.{Grammar, Nonterminal, WellFormed}
 use Rattle.grammar.specs.Derivation.{Productive, Reachable, Useless, Lowest}
 use Rattle.grammar.specs.Rows.{symbolSpace}

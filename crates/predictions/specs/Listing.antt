@@ -1,20 +1,19 @@
 -- Listing the productions in the cells of the predictions, one after the other, and the lowest nonterminal in conflict on the way.
-use Prim.Native.Nat.{ℕ, zero, suc, _+_, _-_, _*_, _≤_, _<_}
+use Prim.Native.Nat.{ℕ, suc, _+_, _-_, _*_, _≤_, _<_}
 use mathlib.Core.Path.{_≡_, refl, sym, ap, _∙_}
-use mathlib.Core.Bool.{Bool, true, false}
 use mathlib.Core.Logic.{_⊎_, inl, inr, by-cases}
 use mathlib.Core.List.{List}
 use lib.ListN.{length, getD, set, length-set}
 use lib.Seq.{getD-set-same, getD-set-other}
 use lib.Dec.{eqb, ltb}
-use borrow.Author.Tests.{eq-eqb, ne-eqb, eqb-true, eqb-false, ltb-true, ltb-false}
-use native.Mathlib.Decide.{ℕ-discrete, decLt, decLe}
+use borrow.Author.Tests.{ne-eqb, eqb-true, eqb-false, ltb-true, ltb-false}
+use native.Mathlib.Decide.{ℕ-discrete, decLt}
 use native.Mathlib.Omega.{arith}
 use Rattle.base.specs.Choose.{choose, choose-of}
 use Rattle.base.specs.Bits.{Has, has?}
 use Rattle.base.specs.Blocks.{zeros, length-zeros, byte-zeros}
 use Rattle.grammar.specs.Rows.{leftAt}
-use Rattle.predictions.specs.Hits.{columns, hasb, hasb-has, has-hasb, hasb-not, predictors, Hit, Clash}
+use Rattle.predictions.specs.Hits.{columns, hasb, hasb-has, has-hasb, predictors, Hit, Clash}
 
 -- as many rows as columns
 abbrev pub cellsSize : ℕ
@@ -159,7 +158,7 @@ module _ (rows s : List ℕ) (t : ℕ) where
     other-cell : (R a : ℕ) → R < columns → a < columns → (t + 1 + R ≡ m → ⊥) → Cell rows s (k + 1) (t + 1 + R) a (getD cells' (R * columns + a) 0)
     other-cell R a l i n =
         let same : getD cells' (R * columns + a) 0 ≡ getD cells (R * columns + a) 0 =
-            by-cases (decLt R (m - t - 1)) (λ x. u .before (R * columns + a) (omega arith)) (λ x. u .behind (R * columns + a) (omega arith))
+        by-cases (decLt R (m - t - 1)) (λ x. u .before (R * columns + a) (omega arith)) (λ x. u .behind (R * columns + a) (omega arith))
         in
         rw same (old-cell (λ x. n (sym (x .left) ∙ sym em)) (h .cell R a l i))
 

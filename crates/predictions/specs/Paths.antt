@@ -1,14 +1,14 @@
 -- Stems by the closures, in a grammar where no two productions of a nonterminal share a predictor: one for each a in FIRST(M).
 use mathlib.Core.Path.{_≡_, refl, sym, ap, _∙_}
 use mathlib.Core.Logic.{_⊎_, inl, inr}
-use Prim.Native.Nat.{ℕ, zero, suc, _+_, _≤_, _<_}
-use mathlib.Core.List.{List, [], _∷_, _++_, append-assoc, append-nil}
-use lib.ListN.{length, length-append}
+use Prim.Native.Nat.{ℕ, _≤_, _<_}
+use mathlib.Core.List.{List, [], _∷_, _++_}
+use lib.ListN.{length}
 use native.Mathlib.Omega.{arith}
 use Rattle.base.specs.Choose.{never}
 use Rattle.grammar.specs.Grammar.{Grammar, Rule, Terminal}
 use Rattle.grammar.specs.Rules.{rule-one}
-use Rattle.sets.specs.Closures.{Vanish, v-nil, v-cons, vanish-parts, Begin, b-here, b-rule, b-skip, begin-left, begin-right, begin-terminal, After, a-start, a-first, a-up, split}
+use Rattle.sets.specs.Closures.{Vanish, v-nil, v-cons, vanish-parts, Begin, b-here, b-rule, b-skip, begin-left, begin-right, After, a-first, a-up, split}
 
 -- a predicts a production with left side M and body γ
 pub data Chosen (G : Grammar) (a M : ℕ) (γ : List ℕ) : Type 0 where

@@ -1,17 +1,16 @@
 -- Stems in a grammar that passes replies 1 to 3: one for each a in FIRST(M), no symbol twice, and two that share a symbol agree below it.
-use Prim.Native.Nat.{ℕ, _+_, _≤_, _<_}
-use mathlib.Core.Path.{_≡_, refl, sym, ap, _∙_}
+use Prim.Native.Nat.{ℕ}
+use mathlib.Core.Path.{_≡_, refl}
 use mathlib.Core.Logic.{_↔_}
-use mathlib.Core.List.{List, [], _∷_, _++_, List·Memᴰ, List·Memᴰ·head, List·Memᴰ·tail}
-use native.Mathlib.Omega.{arith}
-use Rattle.grammar.specs.Grammar.{Grammar, Rule, Terminal, Nonterminal, WellFormed}
-use Rattle.grammar.specs.Derivation.{First, Follow, Reachable, Useless}
+use mathlib.Core.List.{List, [], _∷_}
+use Rattle.grammar.specs.Grammar.{Grammar, Rule, WellFormed}
+use Rattle.grammar.specs.Derivation.{First, Reachable, Useless}
 use Rattle.grammar.specs.Prediction.{Predicts, by-first, by-follow, Stem, ends, down, Prepared}
 use Rattle.grammar.specs.Single.{ll1-one}
 use Rattle.grammar.specs.Rules.{rule-left}
-use Rattle.sets.specs.Closures.{Vanish, vanish-steps, steps-vanish, Begin, begin-first, first-begin, After, follow-after, after-follow}
+use Rattle.sets.specs.Closures.{vanish-steps, steps-vanish, begin-first, first-begin, follow-after, after-follow}
 use Rattle.sets.specs.Decidable.{useful-reachable}
-use Rattle.predictions.specs.Paths.{Chosen, by-begin, by-after, Single, Path, p-end, p-down, path-begin, begin-path, unique, On, here, below, once, agree}
+use Rattle.predictions.specs.Paths.{Chosen, by-begin, by-after, Single, Path, p-end, p-down, path-begin, begin-path, unique, On, once, agree}
 
 -- ---- the closures' stems are the stems
 

@@ -1,13 +1,13 @@
 -- What the cells and the lowest nonterminal in conflict say of the grammar in the rows.
-use Prim.Native.Nat.{ℕ, zero, suc, _+_, _≤_, _<_}
-use mathlib.Core.Path.{_≡_, refl, sym, ap, _∙_}
+use Prim.Native.Nat.{ℕ, suc, _≤_, _<_}
+use mathlib.Core.Path.{_≡_, refl, sym}
 use mathlib.Core.Logic.{by-cases}
 use mathlib.Core.List.{List}
 use native.Mathlib.Decide.{decLt}
 use native.Mathlib.Omega.{arith}
-use Rattle.grammar.specs.Limits.{maxTerminals, maxNonterminals}
-use Rattle.grammar.specs.Grammar.{Grammar, Rule, WellFormed}
-use Rattle.grammar.specs.Derivation.{Useless, Lowest, First, Follow, inside, ending}
+use Rattle.grammar.specs.Limits.{maxTerminals}
+use Rattle.grammar.specs.Grammar.{Grammar, WellFormed}
+use Rattle.grammar.specs.Derivation.{Useless, Lowest, inside, ending}
 use Rattle.grammar.specs.Prediction.{Predicts, by-first, by-follow, Conflict, LL1}
 use Rattle.grammar.specs.Rows.{leftAt, grammarIn}
 use Rattle.grammar.specs.RowRules.{bodyAt, rule-at, rule-row}

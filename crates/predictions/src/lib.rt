@@ -12,6 +12,7 @@ ghost use Rattle.predictions.specs.Idle.{Idle};
 ghost use Rattle.predictions.specs.Listing.{cellsSize, listed as listedm, crowded as crowdedm, lower as lowerm, Marked, Rowed, Listed};
 
 pub const COLUMNS: usize = 32;
+
 pub const CELLS_SIZE: usize = COLUMNS * COLUMNS;
 
 // Whether a is in the set m.

@@ -1,25 +1,23 @@
 -- Every grammar within the limits has its words, with no code run: so each fact that they say is decidable.
 use Prim.Native.Nat.{ℕ, zero, suc, _+_, _-_, _*_, _^_, _≤_, _<_}
-use mathlib.Core.Path.{_≡_, refl, ap, sym, _∙_}
+use mathlib.Core.Path.{_≡_, _∙_}
 use mathlib.Core.Bool.{Bool, false}
-use mathlib.Core.Logic.{by-cases, _↔_, _⊎_, inl, inr}
+use mathlib.Core.Logic.{by-cases, _↔_, inl, inr}
 use mathlib.Core.List.{List, [], _∷_}
-use lib.ListN.{length, getD, set}
+use lib.ListN.{length, getD}
 use lib.Seq.{getD-set-same, getD-set-other, set-out}
-use lib.Dec.{eqb}
 use lib.Bits.{bitOr, or-lt}
 use lib.Pow.{pow-lt}
 use native.Mathlib.Decide.{ℕ-discrete, decLt}
 use native.Mathlib.Omega.{arith}
-use Rattle.base.specs.Choose.{choose, choose-of}
+use Rattle.base.specs.Choose.{choose-of}
 use Rattle.base.specs.Bits.{Has, has?}
 use Rattle.base.specs.Blocks.{zeros, byte-zeros}
-use Rattle.grammar.specs.Limits.{maxTerminals, maxNonterminals}
-use Rattle.grammar.specs.Grammar.{Grammar, Rule, Nonterminal, WellFormed}
+use Rattle.grammar.specs.Limits.{maxTerminals}
+use Rattle.grammar.specs.Grammar.{Grammar, Nonterminal, WellFormed}
 use Rattle.grammar.specs.Derivation.{Nullable, First, Productive, Reachable, Useless}
-use Rattle.grammar.specs.Each.{Each}
 use Rattle.grammar.specs.Rows.{symbolSpace, rowsOf, grammarIn, rows-grammar}
-use Rattle.sets.specs.Words.{follows, marks, setsSize, leads, both, raised, high, stepped, Pass, turn, passed, closing, produced, producedAt, turned, swept, tokens, begun}
+use Rattle.sets.specs.Words.{follows, marks, setsSize, leads, both, raised, high, stepped, turn, passed, closing, produced, producedAt, swept, tokens, begun}
 use Rattle.sets.specs.Growth.{total, total-bound, Within, within-refl, within-trans}
 use Rattle.sets.specs.Facts.{Sound}
 use Rattle.sets.specs.Still.{within-swept}
@@ -58,8 +56,7 @@ bounded-passed : (m : ℕ) (xs s : List ℕ) → Bounded s → Bounded (passed m
 unfolding passed turn
 bounded-passed m [] s h = (h, omega arith, omega arith)
 bounded-passed m (x ∷ xs) s h =
-    let q = bounded-passed m xs s h in
-    (
+    let q = bounded-passed m xs s h in (
       bounded-stepped m x (passed m xs s .tail) (passed m xs s .sets) (q .1) (q .0),
       bounded-leads (getD (passed m xs s .sets) x 0) (passed m xs s .tail) (q .0 x) (q .1),
       bounded-both (getD (passed m xs s .sets) (marks + x) 0) (passed m xs s .made) (q .2),

@@ -1,15 +1,14 @@
 -- Model: what the code computes for the steps down the stems, the stems' symbols as bits, and the break points.
-use Prim.Native.Nat.{ℕ, zero, suc, _+_, _-_, _*_, _/_, _%_, _^_, _≤_, _<_}
-use mathlib.Core.Bool.{Bool, true, false}
+use Prim.Native.Nat.{ℕ, zero, suc, _+_, _-_, _*_, _/_, _%_, _^_}
 use mathlib.Core.List.{List, [], _∷_}
-use lib.ListN.{length, getD}
+use lib.ListN.{getD}
 use lib.Dec.{eqb, leb}
 use lib.Bits.{bitOr}
 use Rattle.base.specs.Choose.{choose}
 use Rattle.grammar.specs.Prediction.{noBreak}
-use Rattle.grammar.specs.Rows.{symbolSpace, leftAt}
+use Rattle.grammar.specs.Rows.{symbolSpace}
 use Rattle.grammar.specs.RowRules.{bodyAt}
-use Rattle.sets.specs.Words.{follows, marks, leads, suffix}
+use Rattle.sets.specs.Words.{follows}
 use Rattle.predictions.specs.Hits.{hasb}
 use Rattle.tables.specs.Tables.{columns}
 

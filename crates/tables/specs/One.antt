@@ -1,17 +1,16 @@
 -- Only one list of bytes is the tables of a prepared grammar.
-use Prim.Native.Nat.{ℕ, _+_, _-_, _*_, _/_, _%_, _≤_, _<_}
-use mathlib.Core.Path.{_≡_, refl, sym, ap, _∙_}
+use Prim.Native.Nat.{ℕ, _+_, _-_, _*_, _/_, _%_, _<_}
+use mathlib.Core.Path.{_≡_, refl, sym, _∙_}
 use mathlib.Core.Logic.{by-cases}
 use mathlib.Core.List.{List, [], _∷_, _++_, List·Memᴰ, List·Memᴰ·head, List·Memᴰ·tail}
-use lib.ListN.{length, getD}
+use lib.ListN.{getD}
 use lib.Seq.{ext-getD}
 use native.Mathlib.Decide.{decLt}
 use native.Mathlib.Omega.{arith}
-use Rattle.base.specs.Choose.{never}
 use Rattle.grammar.specs.Grammar.{Grammar}
-use Rattle.grammar.specs.Prediction.{Predicts, Highest, Break, not-first, both-first, may-vanish, no-break, Prepared}
+use Rattle.grammar.specs.Prediction.{Highest, Break, not-first, both-first, may-vanish, no-break, Prepared}
 use Rattle.grammar.specs.Single.{ll1-one}
-use Rattle.tables.specs.Tables.{tableRows, columns, predictionsSize, breaksSize, tablesSize, rowSymbol, predictionPlace, breakPlace, Prediction, some, none, Tables}
+use Rattle.tables.specs.Tables.{tableRows, columns, predictionsSize, breaksSize, predictionPlace, breakPlace, Prediction, some, none, Tables}
 use Rattle.predictions.specs.Stems.{stem-one}
 
 -- the highest shared symbol is one only
@@ -64,10 +63,10 @@ module _ {G : Grammar} (ok : Prepared G) where
         let a : ℕ = i % columns in
         let q : breakPlace R Q a ≡ i = omega arith in
         let same : getD w (predictionsSize + breakPlace R Q a) 0 ≡ getD w' (predictionsSize + breakPlace R Q a) 0 =
-            by-cases (decLt R (G .n))
-            (λ x. by-cases (decLt Q (G .n)) (λ y. break-one (u .break R Q a x y (omega arith)) (u' .break R Q a x y (omega arith)))
-            (λ y. u .other R Q a (omega arith) (omega arith) (omega arith) (λ _ z. y z) ∙ sym (u' .other R Q a (omega arith) (omega arith) (omega arith) (λ _ z. y z))))
-            (λ x. u .other R Q a (omega arith) (omega arith) (omega arith) (λ z _. x z) ∙ sym (u' .other R Q a (omega arith) (omega arith) (omega arith) (λ z _. x z)))
+        by-cases (decLt R (G .n))
+        (λ x. by-cases (decLt Q (G .n)) (λ y. break-one (u .break R Q a x y (omega arith)) (u' .break R Q a x y (omega arith)))
+        (λ y. u .other R Q a (omega arith) (omega arith) (omega arith) (λ _ z. y z) ∙ sym (u' .other R Q a (omega arith) (omega arith) (omega arith) (λ _ z. y z))))
+        (λ x. u .other R Q a (omega arith) (omega arith) (omega arith) (λ z _. x z) ∙ sym (u' .other R Q a (omega arith) (omega arith) (omega arith) (λ z _. x z)))
         in
         rw q at same
 

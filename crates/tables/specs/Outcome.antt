@@ -1,20 +1,20 @@
 -- What is laid down are the tables of the grammar in the rows.
-use Prim.Native.Nat.{ℕ, zero, suc, _+_, _-_, _*_, _/_, _%_, _≤_, _<_}
-use mathlib.Core.Path.{_≡_, refl, sym, ap, _∙_}
+use Prim.Native.Nat.{ℕ, _+_, _*_, _/_, _%_, _≤_, _<_}
+use mathlib.Core.Path.{_≡_, sym, _∙_}
 use mathlib.Core.List.{List}
-use lib.ListN.{length, getD, drop}
+use lib.ListN.{getD}
 use lib.Seq.{getD-drop}
 use native.Mathlib.Omega.{arith}
 use Rattle.base.specs.Filled.{Filled}
 use Rattle.grammar.specs.Limits.{maxTerminals, maxNonterminals}
 use Rattle.grammar.specs.Grammar.{Grammar}
 use Rattle.grammar.specs.Prediction.{Prepared, Break}
-use Rattle.grammar.specs.Rows.{symbolSpace, grammarIn}
+use Rattle.grammar.specs.Rows.{grammarIn}
 use Rattle.sets.specs.Known.{Known}
 use Rattle.predictions.specs.Listing.{Cell, empty, full, Listed}
 use Rattle.predictions.specs.Verdict.{predicts-hit, hit-predicts}
-use Rattle.tables.specs.Tables.{tableRows, columns, predictionsSize, breakPlace, predictionPlace, Prediction, some, none, Tables}
-use Rattle.tables.specs.Cells.{stepOf, maskOf, pointOf, entryOf}
+use Rattle.tables.specs.Tables.{columns, predictionsSize, breakPlace, predictionPlace, Prediction, some, none, Tables}
+use Rattle.tables.specs.Cells.{stepOf, maskOf, entryOf}
 use Rattle.tables.specs.Points.{point}
 use Rattle.tables.specs.Writing.{Laid}
 
@@ -51,7 +51,7 @@ module _ (rows : List ℕ) (t n start count : ℕ) (s cells : List ℕ) (ready :
         let zi : 0 + i ≡ i = omega arith in
         let e : getD masks i 0 ≡ maskOf steps t i = rw zi at (fm .inside i (omega arith)) in
         let p = point rows t n start count s (ready .known) (ready .prepared) cells (ready .listed) steps step-at
-            (t + 1 + R) (t + 1 + i / columns) (i % columns) (getD masks i 0) (omega (arith, few .0, few .1)) (omega (arith, few .0, few .1)) (omega arith) e
+        (t + 1 + R) (t + 1 + i / columns) (i % columns) (getD masks i 0) (omega (arith, few .0, few .1)) (omega (arith, few .0, few .1)) (omega arith) e
         in
         rw (zq, za) (rw (zq, za) at p)
 

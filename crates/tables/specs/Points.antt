@@ -1,30 +1,30 @@
 -- The steps go down the stems, the bits are their symbols, and the entries are the break points.
 use Prim.Native.Nat.{ℕ, zero, suc, _+_, _-_, _*_, _/_, _%_, _^_, _≤_, _<_}
-use mathlib.Core.Path.{_≡_, refl, sym, ap, _∙_}
-use mathlib.Core.Bool.{Bool, true, false}
-use mathlib.Core.Logic.{by-cases, _↔_, _⊎_, inl, inr}
+use mathlib.Core.Path.{_≡_, refl, ap, _∙_}
+use mathlib.Core.Bool.{true, false}
+use mathlib.Core.Logic.{_↔_, _⊎_, inl, inr}
 use mathlib.Core.List.{List, [], _∷_, _++_, List·Memᴰ, List·Memᴰ·head, List·Memᴰ·tail}
 use lib.ListN.{length, getD}
-use lib.Dec.{eqb, leb}
+use lib.Dec.{eqb}
 use lib.Bits.{bitOr}
-use borrow.Author.Tests.{eq-eqb, ne-eqb, eqb-true, eqb-false, le-leb, lt-leb, leb-true, leb-false}
+use borrow.Author.Tests.{ne-eqb, eqb-true, eqb-false, le-leb, lt-leb}
 use native.Mathlib.Omega.{arith}
-use Rattle.base.specs.Choose.{choose, choose-of, never}
+use Rattle.base.specs.Choose.{choose, choose-of}
 use Rattle.base.specs.Bits.{Has, or-has, has-or-left, has-or-right, one-has, has-one, none-has, odd-has, has-odd}
 use Rattle.grammar.specs.Limits.{maxTerminals, maxNonterminals}
 use Rattle.grammar.specs.Each.{Each}
-use Rattle.grammar.specs.Grammar.{Grammar, Rule, Terminal, WellFormed}
+use Rattle.grammar.specs.Grammar.{Grammar, Rule, Terminal}
 use Rattle.grammar.specs.Derivation.{First}
 use Rattle.grammar.specs.Rules.{rule-left}
-use Rattle.grammar.specs.Prediction.{by-first, Highest, Break, not-first, both-first, may-vanish, no-break, noBreak, Prepared}
-use Rattle.grammar.specs.Rows.{symbolSpace, leftAt, lengthAt, grammarIn, symbols-small, left-small}
+use Rattle.grammar.specs.Prediction.{by-first, Highest, Break, not-first, both-first, may-vanish, no-break, Prepared}
+use Rattle.grammar.specs.Rows.{symbolSpace, lengthAt, grammarIn, symbols-small, left-small}
 use Rattle.grammar.specs.RowRules.{bodyAt, rule-at, rule-row}
-use Rattle.sets.specs.Words.{follows, marks, setsSize}
-use Rattle.sets.specs.Closures.{Vanish, v-nil, v-cons, vanish-join, vanish-steps, steps-vanish, Begin, b-here, b-rule, b-skip, begin-left, begin-right, begin-terminal, begin-first, first-begin, After, follow-after, after-follow}
+use Rattle.sets.specs.Words.{follows}
+use Rattle.sets.specs.Closures.{Vanish, v-nil, vanish-join, Begin, b-here, b-rule, b-skip, begin-left, begin-right, begin-terminal, begin-first, first-begin, follow-after, after-follow}
 use Rattle.sets.specs.Known.{Known, known-null, known-first, known-after}
 use Rattle.predictions.specs.Hits.{hasb, hasb-has, has-hasb, hasb-not, columns, Hit, hit-exactly}
-use Rattle.predictions.specs.Paths.{Chosen, by-begin, Single, Path, p-end, p-down, path-begin, begin-path, unique, rule-body, On, here, below}
-use Rattle.predictions.specs.Stems.{single, path-stem, reach, predicts-chosen}
+use Rattle.predictions.specs.Paths.{Chosen, by-begin, Path, p-end, p-down, path-begin, begin-path, unique, rule-body, below}
+use Rattle.predictions.specs.Stems.{single, path-stem, reach}
 use Rattle.predictions.specs.Listing.{Cell, empty, full, Listed}
 use Rattle.predictions.specs.Verdict.{predicts-hit}
 use Rattle.tables.specs.Cells.{lead, stepOf, next, stemBits, sharedFrom, pointOf}
@@ -128,7 +128,7 @@ module _ (rows : List ℕ) (t n start count : ℕ) (s : List ℕ) (known : Known
         let hm : hasb (getD s M 0) a ≡ true = has-hasb (getD s M 0) a (known-first known M a (rule-small p M γ r) (w .0) .1 (begin-first (b-rule r b))) in
         let c : Cell rows s count M a (getD cells i 0) = rw zm at (listed .cell (M - t - 1) a (omega (arith, some-n)) (omega (arith, few))) in
         let f : getD steps i 0 ≡ lead s a (bodyAt rows (getD cells i 0 - 1)) =
-            filled i (omega (arith, few, some-n)) ∙ rw (za, zi, zm, ne-eqb a 0 (omega arith), hm)
+        filled i (omega (arith, few, some-n)) ∙ rw (za, zi, zm, ne-eqb a 0 (omega arith), hm)
         in
         let k = down-path α β r e v h (lead s a (bodyAt rows (getD cells i 0 - 1))) (cell-step (omega (arith, few)) (w .0) r b c) in
         let l : lead s a (bodyAt rows (getD cells i 0 - 1)) % symbolSpace ≡ lead s a (bodyAt rows (getD cells i 0 - 1)) = omega (arith, path-small k) in

@@ -1,12 +1,11 @@
 -- The laws that the code's proofs cite: the loops down a body and down a stem, and how the entries fill the tables.
 use Prim.Native.Nat.{ℕ, zero, suc, _+_, _-_, _*_, _/_, _%_, _^_, _≤_, _<_, min}
-use mathlib.Core.Path.{_≡_, refl, sym, ap, ap₂, _∙_}
+use mathlib.Core.Path.{_≡_, sym, ap, _∙_}
 use mathlib.Core.Bool.{Bool, true, false}
 use mathlib.Core.Logic.{by-cases}
 use mathlib.Core.List.{List, [], _∷_, _++_, append-nil}
 use lib.ListN.{length, getD, take, drop, length-append, length-drop, drop-of-length-le, List·getD-append}
-use lib.Seq.{take-at, drop-at, length-take-le, getD-take, getD-drop, getD-append-add, take-length}
-use lib.Dec.{eqb, leb}
+use lib.Seq.{take-at, drop-at, take-length}
 use lib.Bits.{bitOr}
 use lib.Pow.{pow-lt}
 use borrow.Author.Tests.{le-leb, lt-leb, eq-eqb, ne-eqb}
@@ -19,10 +18,10 @@ use Rattle.base.specs.Filled.{Filled}
 use Rattle.grammar.specs.Rows.{symbolSpace, lengthAt, symbolAt, symbolsFrom}
 use Rattle.grammar.specs.RowRules.{bodyAt}
 use Rattle.predictions.specs.Hits.{hasb}
-use Rattle.tables.specs.Tables.{tableRows, columns, predictionsSize, breaksSize, tablesSize, predictionPlace, breakPlace}
+use Rattle.tables.specs.Tables.{tableRows, columns, predictionsSize, breaksSize, tablesSize, breakPlace}
 use Rattle.grammar.specs.Prediction.{noBreak}
 use Rattle.sets.specs.Words.{follows}
-use Rattle.tables.specs.Cells.{lead, stepOf, next, stemBits, sharedFrom, pointOf, entryOf}
+use Rattle.tables.specs.Cells.{lead, stepOf, next, stemBits, sharedFrom, pointOf}
 
 -- ---- the first symbol that a begins
 
@@ -146,8 +145,8 @@ module _ (f : ℕ → ℕ → ℕ) (n : ℕ) where
             (λ e. u .before (breakPlace R Q a) (omega arith) ∙ h .done R Q a (omega arith) y z);
         other = λ R Q a x y z g.
             let same : getD w' (breakPlace R Q a) 0 ≡ getD w (breakPlace R Q a) 0 =
-                by-cases (decLt R r) (λ m. u .before (breakPlace R Q a) (omega arith))
-                (λ m. by-cases (ℕ-discrete R r) (λ e. u .behind (breakPlace R Q a) (omega (arith, g (omega arith)))) (λ e. u .behind (breakPlace R Q a) (omega arith)))
+            by-cases (decLt R r) (λ m. u .before (breakPlace R Q a) (omega arith))
+            (λ m. by-cases (ℕ-discrete R r) (λ e. u .behind (breakPlace R Q a) (omega (arith, g (omega arith)))) (λ e. u .behind (breakPlace R Q a) (omega arith)))
             in
             same ∙ h .other R Q a x y z (λ m q. g (omega arith) q);
       }

@@ -15,10 +15,15 @@ ghost use Rattle.tables.specs.Cells.{lead as leadm, stepOf, next as next
 ghost use Rattle.tables.specs.Writing.{Broken, Laid};
 
 const COLUMNS: usize = 32;
+
 const BLOCK: usize = COLUMNS * COLUMNS;
+
 pub const PREDICTIONS_SIZE: usize = BLOCK;
+
 const BREAKS_SIZE: usize = COLUMNS * BLOCK;
+
 pub const TABLES_SIZE: usize = PREDICTIONS_SIZE + BREAKS_SIZE;
+
 const NO_BREAK: usize = 255;
 
 // Whether the symbol x is in the mask.
@@ -171,7 +176,15 @@ fn fill_row(sets: &[u32], steps: &[u8], masks: &[u64], t: usize, n: usize, r: us
 {
     let mut i: usize = 0;
     while i < n * COLUMNS {
-        let v = point(sets, steps, t, t + 1 + r, t + 1 + i / COLUMNS, i % COLUMNS, masks[i]);
+        let v = point(
+            sets,
+            steps,
+            t,
+            t + 1 + r,
+            t + 1 + i / COLUMNS,
+            i % COLUMNS,
+            masks[i],
+        );
         w[r * BLOCK + i] = v as u8;
         i += 1;
     }
@@ -191,7 +204,15 @@ fn write_breaks(sets: &[u32], steps: &[u8], masks: &[u64], t: usize, n: usize, w
 }
 
 // The predictions in the cells, then the break points. The tail of the lent tables, from byte 1,024, is lent on to the break-point writer.
-fn lay(sets: &[u32], cells: &[u8], steps: &[u8], masks: &[u64], t: usize, n: usize, tables: &mut [u8])
+fn lay(
+    sets: &[u32],
+    cells: &[u8],
+    steps: &[u8],
+    masks: &[u64],
+    t: usize,
+    n: usize,
+    tables: &mut [u8],
+)
     requires { ⌜ (length (now sets) ≡ setsSize) × (length (now cells) ≡ predictionsSize) × (length (now masks) ≡ predictionsSize) × (t ≤ maxTerminals) × (n ≤ maxNonterminals) × (length (now tables) ≡ tablesSize) ⌝ }
     ensures { λ _. ⌜ Laid (now (cells .entry)) (entryOf (now (sets .entry)) (now (steps .entry)) (now (masks .entry)) t) n (now (tables .exit)) ⌝ }
 {

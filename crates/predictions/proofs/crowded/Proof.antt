@@ -1,28 +1,20 @@
 use Rattle.base.specs.Choose.{ways}
 use Rattle.predictions.specs.Listing.{crowded}
-use native.Mathlib.Omega.{arith}
 use borrow.Author.Needs.{needs}
 use Rattle.predictions.proofs.crowded.Statement.{statement}
 use Rattle.predictions.proofs.crowded.Tie as tie
-use Rattle.predictions.proofs.crowded.Reads as reads
-use Rattle.predictions.proofs.crowded.Lts as lts
-use Rattle.predictions.proofs.has.Reads as has-reads
 
--- src/lib.rt:79:8
 has-requires : tie.Need-has-requires
 has-requires c κs = search needs
 
--- src/lib.rt:81:13
 returns : tie.Need-returns
 unfolding crowded
 returns c = (rw (← c .before .before .has .ensures) (search ways depth 12), search needs)
 
--- src/lib.rt:83:9
 returns-2 : tie.Need-returns-2
 unfolding crowded
 returns-2 c = (rw (← c .before .before .has .ensures) (search ways depth 12), search needs)
 
--- src/lib.rt:75:1
 returns-3 : tie.Need-returns-3
 unfolding crowded
 returns-3 c = (rw (← c .before .has .ensures) (search ways depth 12), search needs)

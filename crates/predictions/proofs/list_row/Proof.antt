@@ -4,13 +4,8 @@ use Prim.Native.Nat.{_+_, _-_, _≤_}
 use mathlib.Core.Path.{_≡_}
 use lib.ListN.{length}
 use borrow.Author.Needs.{needs}
-use native.Mathlib.Omega.{arith}
 use Rattle.predictions.proofs.list_row.Statement.{statement}
 use Rattle.predictions.proofs.list_row.Tie as tie
-use Rattle.predictions.proofs.list_row.Reads as reads
-use Rattle.predictions.proofs.list_row.Lts as lts
-use Rattle.predictions.proofs.crowded.Reads as crowded-reads
-use Rattle.predictions.proofs.listed.Reads as listed-reads
 
 abbrev Inv-loop : tie.InvT-loop
 Inv-loop w new at cells₀ c₀ a₀ cells c a = (length cells ≡ cellsSize) × (at + columns ≤ cellsSize) × (a ≤ columns) × (c ≤ a) × Marked w new at a cells₀ cells c
@@ -18,55 +13,42 @@ Inv-loop w new at cells₀ c₀ a₀ cells c a = (length cells ≡ cellsSize) ×
 abbrev μ-loop : tie.MeasureT-loop
 μ-loop w new at cells₀ c₀ a₀ cells c a = columns - a
 
--- src/lib.rt:95:5
 loop-holds : tie.Need-loop-holds Inv-loop μ-loop
 loop-holds c = search (marking, needs)
 
--- src/lib.rt:96:25
 add-old : tie.Need-add-old Inv-loop μ-loop
 add-old c = search needs
 
--- src/lib.rt:96:19
 slice-read-old : tie.Need-slice-read-old Inv-loop μ-loop
 slice-read-old c = search needs
 
--- src/lib.rt:97:13
 listed-requires : tie.Need-listed-requires Inv-loop μ-loop
 listed-requires c κs = search needs
 
--- src/lib.rt:98:13
 crowded-requires : tie.Need-crowded-requires Inv-loop μ-loop
 crowded-requires c κs = search needs
 
--- src/lib.rt:99:15
 add-cells : tie.Need-add-cells Inv-loop μ-loop
 add-cells c = search needs
 
--- src/lib.rt:99:9
 slice-write-cells : tie.Need-slice-write-cells Inv-loop μ-loop
 slice-write-cells c = search needs
 
--- src/lib.rt:100:9
 add-c : tie.Need-add-c Inv-loop μ-loop
 add-c c = search needs
 
--- src/lib.rt:101:9
 add-a : tie.Need-add-a Inv-loop μ-loop
 add-a c = search needs
 
--- src/lib.rt:95:5
 loop-less : tie.Need-loop-less Inv-loop μ-loop
 loop-less c = search needs
 
--- src/lib.rt:95:5
 loop-again : tie.Need-loop-again Inv-loop μ-loop
-loop-again c = (search needs, search needs, search needs, search needs, marked-more  _ _ _ _ _ _ _ _ _ (search needs) (c .before .listed .ensures) (c .crowded .ensures .0) (c .before .before .before .before .loop .inv .4))
+loop-again c = (search needs, search needs, search needs, search needs, marked-more _ _ _ _ _ _ _ _ _ (search needs) (c .before .listed .ensures) (c .crowded .ensures .0) (c .before .before .before .before .loop .inv .4))
 
--- src/lib.rt:89:1
 same-length : tie.Need-same-length Inv-loop μ-loop
 same-length c = search needs
 
--- src/lib.rt:89:1
 returns : tie.Need-returns Inv-loop μ-loop
 returns c = search (marking, needs)
 

@@ -1,23 +1,16 @@
 use Rattle.base.specs.Choose.{ways}
 use Rattle.predictions.specs.Listing.{listed}
-use native.Mathlib.Omega.{arith}
 use borrow.Author.Needs.{needs}
 use Rattle.predictions.proofs.listed.Statement.{statement}
 use Rattle.predictions.proofs.listed.Tie as tie
-use Rattle.predictions.proofs.listed.Reads as reads
-use Rattle.predictions.proofs.listed.Lts as lts
-use Rattle.predictions.proofs.has.Reads as has-reads
 
--- src/lib.rt:69:8
 has-requires : tie.Need-has-requires
 has-requires c κs = search needs
 
--- src/lib.rt:70:9
 returns : tie.Need-returns
 unfolding listed
 returns c = rw (← c .before .has .ensures) (search ways depth 12)
 
--- src/lib.rt:65:1
 returns-2 : tie.Need-returns-2
 unfolding listed
 returns-2 c = rw (← c .before .has .ensures) (search ways depth 12)

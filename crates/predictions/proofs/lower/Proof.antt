@@ -1,28 +1,20 @@
 use Rattle.base.specs.Choose.{ways}
 use Rattle.predictions.specs.Listing.{lower}
-use borrow.Author.Needs.{needs}
-use native.Mathlib.Omega.{arith}
 use Rattle.predictions.proofs.lower.Statement.{statement}
 use Rattle.predictions.proofs.lower.Tie as tie
-use Rattle.predictions.proofs.lower.Reads as reads
-use Rattle.predictions.proofs.lower.Lts as lts
 
--- src/lib.rt:110:9
 returns : tie.Need-returns
 unfolding lower
 returns c = search ways depth 12
 
--- src/lib.rt:113:9
 returns-2 : tie.Need-returns-2
 unfolding lower
 returns-2 c = search ways depth 12
 
--- src/lib.rt:116:9
 returns-3 : tie.Need-returns-3
 unfolding lower
 returns-3 c = search ways depth 12
 
--- src/lib.rt:106:1
 returns-4 : tie.Need-returns-4
 unfolding lower
 returns-4 c = search ways depth 12

@@ -5,15 +5,8 @@ use Prim.Native.Nat.{_-_, _≤_}
 use mathlib.Core.Path.{_≡_}
 use lib.ListN.{length}
 use borrow.Author.Needs.{needs}
-use native.Mathlib.Omega.{arith}
 use Rattle.predictions.proofs.predict.Statement.{statement}
 use Rattle.predictions.proofs.predict.Tie as tie
-use Rattle.predictions.proofs.predict.Reads as reads
-use Rattle.predictions.proofs.predict.Lts as lts
-use Rattle.grammar.proofs.left_at.Reads as left-at-reads
-use Rattle.predictions.proofs.list_row.Reads as list-row-reads
-use Rattle.predictions.proofs.lower.Reads as lower-reads
-use Rattle.predictions.proofs.predictors.Reads as predictors-reads
 
 abbrev Inv-loop : tie.InvT-loop
 Inv-loop rows t count sets cells₀ low₀ p₀ cells low p = (length sets ≡ setsSize) × (length cells ≡ cellsSize) × (t ≤ maxTerminals) × (count ≤ maxProductions) × (p ≤ count) × Rowed rows t count × Listed rows sets t p cells low
@@ -21,63 +14,48 @@ Inv-loop rows t count sets cells₀ low₀ p₀ cells low p = (length sets ≡ s
 abbrev μ-loop : tie.MeasureT-loop
 μ-loop rows t count sets cells₀ low₀ p₀ cells low p = count - p
 
--- src/lib.rt:128:5
 loop-holds : tie.Need-loop-holds Inv-loop μ-loop
 loop-holds c = (search needs, search needs, search needs, search needs, search needs, search needs, listed-none _ _ _ _ (c .before .before .before .pre .2))
 
--- src/lib.rt:129:13
 left-at-requires : tie.Need-left-at-requires Inv-loop μ-loop
 left-at-requires c κs = search needs
 
--- src/lib.rt:130:13
 predictors-requires : tie.Need-predictors-requires Inv-loop μ-loop
 predictors-requires c κs = search needs
 
--- src/lib.rt:131:30
 add-list-row : tie.Need-add-list-row Inv-loop μ-loop
 add-list-row c = search needs
 
--- src/lib.rt:131:29
 cast-list-row : tie.Need-cast-list-row Inv-loop μ-loop
 cast-list-row c = search needs
 
--- src/lib.rt:131:45
 sub-list-row : tie.Need-sub-list-row Inv-loop μ-loop
 sub-list-row c = let h = c .before .before .before .loop .inv .5 _ (c .before .before .loop-test .taken) in search needs
 
--- src/lib.rt:131:45
 sub-list-row-2 : tie.Need-sub-list-row-2 Inv-loop μ-loop
 sub-list-row-2 c = let h = c .before .before .before .loop .inv .5 _ (c .before .before .loop-test .taken) in search needs
 
--- src/lib.rt:131:44
 mul-list-row : tie.Need-mul-list-row Inv-loop μ-loop
 mul-list-row c = let h = c .before .before .before .loop .inv .5 _ (c .before .before .loop-test .taken) in search needs
 
--- src/lib.rt:131:13
 list-row-requires : tie.Need-list-row-requires Inv-loop μ-loop
 list-row-requires c κs = let h = c .before .before .before .before .loop .inv .5 _ (c .before .before .before .loop-test .taken) in search needs
 
--- src/lib.rt:132:9
 lower-requires : tie.Need-lower-requires Inv-loop μ-loop
 lower-requires c κs = search needs
 
--- src/lib.rt:133:9
 add-p : tie.Need-add-p Inv-loop μ-loop
 add-p c = search needs
 
--- src/lib.rt:128:5
 loop-less : tie.Need-loop-less Inv-loop μ-loop
 loop-less c = search needs
 
--- src/lib.rt:128:5
 loop-again : tie.Need-loop-again Inv-loop μ-loop
-loop-again c = let h = c .before .before .before .before .before .before .before .before .loop .inv .5 _ (c .before .before .before .before .before .before .before .loop-test .taken) in (search needs, search needs, search needs, search needs, search needs, search needs, rw (c .lower .ensures) (listed-more  _ _ _ _ _ _ _ _ _ _ (c .before .before .before .before .before .before .left-at .ensures .0) (c .before .before .before .before .before .predictors .ensures) (search needs) (search needs) (c .before .before .before .before .before .before .before .before .loop .inv .6) (c .before .before .before .list-row .ensures)))
+loop-again c = let h = c .before .before .before .before .before .before .before .before .loop .inv .5 _ (c .before .before .before .before .before .before .before .loop-test .taken) in (search needs, search needs, search needs, search needs, search needs, search needs, rw (c .lower .ensures) (listed-more _ _ _ _ _ _ _ _ _ _ (c .before .before .before .before .before .before .left-at .ensures .0) (c .before .before .before .before .before .predictors .ensures) (search needs) (search needs) (c .before .before .before .before .before .before .before .before .loop .inv .6) (c .before .before .before .list-row .ensures)))
 
--- src/lib.rt:122:1
 same-length : tie.Need-same-length Inv-loop μ-loop
 same-length c = search needs
 
--- src/lib.rt:122:1
 returns : tie.Need-returns Inv-loop μ-loop
 returns c = search (listed-all, needs)
 

@@ -5,11 +5,8 @@ use mathlib.Core.Path.{_≡_}
 use lib.ListN.{length}
 use Rattle.grammar.specs.Limits.{maxTerminals, maxNonterminals}
 use borrow.Author.Needs.{needs}
-use native.Mathlib.Omega.{arith}
 use Rattle.predictions.proofs.useless.Statement.{statement}
 use Rattle.predictions.proofs.useless.Tie as tie
-use Rattle.predictions.proofs.useless.Reads as reads
-use Rattle.predictions.proofs.useless.Lts as lts
 
 abbrev Inv-loop : tie.InvT-loop
 Inv-loop sets t n x₀ x = (length sets ≡ setsSize) × (t ≤ maxTerminals) × (n ≤ maxNonterminals) × (t ≤ x) × (x ≤ t + n) × BusyTo sets t x
@@ -17,51 +14,39 @@ Inv-loop sets t n x₀ x = (length sets ≡ setsSize) × (t ≤ maxTerminals) ×
 abbrev μ-loop : tie.MeasureT-loop
 μ-loop sets t n x₀ x = t + n - x
 
--- src/lib.rt:31:5
 loop-holds : tie.Need-loop-holds Inv-loop μ-loop
 loop-holds c = search (idling, needs)
 
--- src/lib.rt:31:15
 add-loop : tie.Need-add-loop Inv-loop μ-loop
 add-loop c = search needs
 
--- src/lib.rt:32:40
 add-mark : tie.Need-add-mark Inv-loop μ-loop
 add-mark c = search needs
 
--- src/lib.rt:32:25
 add-mark-2 : tie.Need-add-mark-2 Inv-loop μ-loop
 add-mark-2 c = search needs
 
--- src/lib.rt:32:20
 mul-mark : tie.Need-mul-mark Inv-loop μ-loop
 mul-mark c = search needs
 
--- src/lib.rt:32:20
 shared-slice-read-mark : tie.Need-shared-slice-read-mark Inv-loop μ-loop
 shared-slice-read-mark c = search needs
 
--- src/lib.rt:34:20
 add-result : tie.Need-add-result Inv-loop μ-loop
 add-result c = search needs
 
--- src/lib.rt:34:13
 returns : tie.Need-returns Inv-loop μ-loop
 returns c = search (idling, needs)
 
--- src/lib.rt:36:9
 add-x : tie.Need-add-x Inv-loop μ-loop
 add-x c = search needs
 
--- src/lib.rt:31:5
 loop-less : tie.Need-loop-less Inv-loop μ-loop
 loop-less c = search needs
 
--- src/lib.rt:31:5
 loop-again : tie.Need-loop-again Inv-loop μ-loop
 loop-again c = search (idling, needs)
 
--- src/lib.rt:26:1
 returns-2 : tie.Need-returns-2 Inv-loop μ-loop
 returns-2 c = search (idling, needs)
 

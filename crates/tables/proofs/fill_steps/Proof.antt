@@ -3,16 +3,12 @@ use Rattle.tables.specs.Cells.{stepOf}
 use Rattle.tables.specs.Tables.{predictionsSize}
 use Rattle.sets.specs.Words.{setsSize}
 use Rattle.grammar.specs.Limits.{maxTerminals}
-use Prim.Native.Nat.{_+_, _-_, _*_, _≤_, _<_}
-use mathlib.Core.Path.{_≡_, refl}
+use Prim.Native.Nat.{_-_, _≤_}
+use mathlib.Core.Path.{_≡_}
 use lib.ListN.{length}
 use borrow.Author.Needs.{needs}
-use native.Mathlib.Omega.{arith}
 use Rattle.tables.proofs.fill_steps.Statement.{statement}
 use Rattle.tables.proofs.fill_steps.Tie as tie
-use Rattle.tables.proofs.fill_steps.Reads as reads
-use Rattle.tables.proofs.fill_steps.Lts as lts
-use Rattle.tables.proofs.step_of.Reads as step-of-reads
 
 abbrev Inv-loop : tie.InvT-loop
 Inv-loop rows sets cells t steps₀ i₀ steps i = (length sets ≡ setsSize) × (t ≤ maxTerminals) × (length steps ≡ predictionsSize) × (i ≤ predictionsSize) × Filled (stepOf rows sets cells t) 0 i steps₀ steps
@@ -20,39 +16,30 @@ Inv-loop rows sets cells t steps₀ i₀ steps i = (length sets ≡ setsSize) ×
 abbrev μ-loop : tie.MeasureT-loop
 μ-loop rows sets cells t steps₀ i₀ steps i = predictionsSize - i
 
--- src/lib.rt:79:5
 loop-holds : tie.Need-loop-holds Inv-loop μ-loop
 loop-holds c = search (filling, needs)
 
--- src/lib.rt:80:24
 step-of-requires : tie.Need-step-of-requires Inv-loop μ-loop
 step-of-requires c κs = search needs
 
--- src/lib.rt:80:15
 add-steps : tie.Need-add-steps Inv-loop μ-loop
 add-steps c = search needs
 
--- src/lib.rt:80:9
 slice-write-steps : tie.Need-slice-write-steps Inv-loop μ-loop
 slice-write-steps c = search needs
 
--- src/lib.rt:81:9
 add-i : tie.Need-add-i Inv-loop μ-loop
 add-i c = search needs
 
--- src/lib.rt:79:5
 loop-less : tie.Need-loop-less Inv-loop μ-loop
 loop-less c = search needs
 
--- src/lib.rt:79:5
 loop-again : tie.Need-loop-again Inv-loop μ-loop
-loop-again c = (search needs, search needs, search needs, search needs, filled-more  _ _ _ _ _ _ (search needs) (c .step-of .ensures) (c .before .before .loop .inv .4))
+loop-again c = (search needs, search needs, search needs, search needs, filled-more _ _ _ _ _ _ (search needs) (c .step-of .ensures) (c .before .before .loop .inv .4))
 
--- src/lib.rt:74:1
 same-length : tie.Need-same-length Inv-loop μ-loop
 same-length c = search needs
 
--- src/lib.rt:74:1
 returns : tie.Need-returns Inv-loop μ-loop
 returns c = search (filling, needs)
 

@@ -1,79 +1,57 @@
 use Rattle.tables.specs.Writing.{point-follow}
 use Rattle.tables.specs.Writing.{pointing}
-use native.Mathlib.Omega.{arith}
 use borrow.Author.Needs.{needs}
 use Rattle.tables.proofs.point.Statement.{statement}
 use Rattle.tables.proofs.point.Tie as tie
-use Rattle.tables.proofs.point.Reads as reads
-use Rattle.tables.proofs.point.Lts as lts
-use Rattle.predictions.proofs.has.Reads as has-reads
-use Rattle.tables.proofs.shared.Reads as shared-reads
 
--- src/lib.rt:149:9
 returns : tie.Need-returns
 returns c = search (pointing, needs)
 
--- src/lib.rt:151:16
 mul-word : tie.Need-mul-word
 mul-word c = search needs
 
--- src/lib.rt:151:16
 shared-slice-read-word : tie.Need-shared-slice-read-word
 shared-slice-read-word c = search needs
 
--- src/lib.rt:152:25
 mul-has : tie.Need-mul-has
 mul-has c = search needs
 
--- src/lib.rt:152:25
 shared-slice-read-has : tie.Need-shared-slice-read-has
 shared-slice-read-has c = search needs
 
--- src/lib.rt:152:8
 has-requires : tie.Need-has-requires
 has-requires c κs = search needs
 
--- src/lib.rt:153:12
 has-requires-2 : tie.Need-has-requires-2
 has-requires-2 c κs = search needs
 
--- src/lib.rt:154:13
 shared-requires : tie.Need-shared-requires
 shared-requires c κs = search needs
 
--- src/lib.rt:154:13
 returns-2 : tie.Need-returns-2
 returns-2 c = search (pointing, needs)
 
--- src/lib.rt:157:38
 add-has : tie.Need-add-has
 add-has c = search needs
 
--- src/lib.rt:157:33
 mul-has-2 : tie.Need-mul-has-2
 mul-has-2 c = search needs
 
--- src/lib.rt:157:33
 shared-slice-read-has-2 : tie.Need-shared-slice-read-has-2
 shared-slice-read-has-2 c = search needs
 
--- src/lib.rt:157:16
 has-requires-3 : tie.Need-has-requires-3
 has-requires-3 c κs = search needs
 
--- src/lib.rt:158:17
 returns-3 : tie.Need-returns-3
-returns-3 c = (point-follow  _ _ _ _ _ _ _ (c .before .before .before .before .before .before .before .before .before .before .if1 .left) _ (c .before .before .before .before .before .before .before .has .ensures) (c .before .before .before .before .before .before .if2 .taken) _ (c .before .before .before .before .before .has2 .ensures) _ (c .before .before .before .before .if3 .left) (c .before .before .before .if4 .taken) (c .before .has3 .ensures) (c .if5 .taken), search needs)
+returns-3 c = (point-follow _ _ _ _ _ _ _ (c .before .before .before .before .before .before .before .before .before .before .if1 .left) _ (c .before .before .before .before .before .before .before .has .ensures) (c .before .before .before .before .before .before .if2 .taken) _ (c .before .before .before .before .before .has2 .ensures) _ (c .before .before .before .before .if3 .left) (c .before .before .before .if4 .taken) (c .before .has3 .ensures) (c .if5 .taken), search needs)
 
--- src/lib.rt:161:9
 returns-4 : tie.Need-returns-4
 returns-4 c = search (pointing, needs)
 
--- src/lib.rt:161:9
 returns-5 : tie.Need-returns-5
 returns-5 c = search (pointing, needs)
 
--- src/lib.rt:144:1
 returns-6 : tie.Need-returns-6
 returns-6 c = search (pointing, needs)
 

@@ -3,17 +3,11 @@ use Rattle.tables.specs.Cells.{sharedFrom}
 use Rattle.grammar.specs.Limits.{maxTerminals}
 use Rattle.predictions.specs.Hits.{columns}
 use Rattle.grammar.specs.Rows.{symbolSpace}
-use Prim.Native.Nat.{_+_, _-_, _*_, _≤_, _<_}
-use mathlib.Core.Path.{_≡_, refl}
-use lib.ListN.{length}
+use Prim.Native.Nat.{_≤_, _<_}
+use mathlib.Core.Path.{_≡_}
 use borrow.Author.Needs.{needs}
-use native.Mathlib.Omega.{arith}
 use Rattle.tables.proofs.shared.Statement.{statement}
 use Rattle.tables.proofs.shared.Tie as tie
-use Rattle.tables.proofs.shared.Reads as reads
-use Rattle.tables.proofs.shared.Lts as lts
-use Rattle.tables.proofs.in_mask.Reads as in-mask-reads
-use Rattle.tables.proofs.next.Reads as next-reads
 
 abbrev Inv-loop : tie.InvT-loop
 Inv-loop steps t a mask from x₀ k₀ x k = (t ≤ maxTerminals) × (a < columns) × (x < symbolSpace) × (k ≤ symbolSpace) × (sharedFrom steps t a mask symbolSpace from ≡ sharedFrom steps t a mask k x)
@@ -21,35 +15,27 @@ Inv-loop steps t a mask from x₀ k₀ x k = (t ≤ maxTerminals) × (a < column
 abbrev μ-loop : tie.MeasureT-loop
 μ-loop steps t a mask from x₀ k₀ x k = k
 
--- src/lib.rt:133:5
 loop-holds : tie.Need-loop-holds Inv-loop μ-loop
 loop-holds c = search needs
 
--- src/lib.rt:134:12
 in-mask-requires : tie.Need-in-mask-requires Inv-loop μ-loop
 in-mask-requires c κs = search needs
 
--- src/lib.rt:135:13
 returns : tie.Need-returns Inv-loop μ-loop
-returns c = (shared-here  _ _ _ _ _ _ _ _ (search needs) (c .before .in-mask .ensures) (c .if1 .taken) (c .before .before .before .loop .inv .4), search needs)
+returns c = (shared-here _ _ _ _ _ _ _ _ (search needs) (c .before .in-mask .ensures) (c .if1 .taken) (c .before .before .before .loop .inv .4), search needs)
 
--- src/lib.rt:137:9
 next-requires : tie.Need-next-requires Inv-loop μ-loop
 next-requires c κs = search needs
 
--- src/lib.rt:138:9
 sub-k : tie.Need-sub-k Inv-loop μ-loop
 sub-k c = search needs
 
--- src/lib.rt:133:5
 loop-less : tie.Need-loop-less Inv-loop μ-loop
 loop-less c = search needs
 
--- src/lib.rt:133:5
 loop-again : tie.Need-loop-again Inv-loop μ-loop
-loop-again c = (search needs, search needs, search needs, search needs, shared-on  _ _ _ _ _ _ _ _ _ (search needs) (c .before .before .in-mask .ensures) (c .before .if1 .left) (c .next .ensures .0) (c .before .before .before .before .loop .inv .4))
+loop-again c = (search needs, search needs, search needs, search needs, shared-on _ _ _ _ _ _ _ _ _ (search needs) (c .before .before .in-mask .ensures) (c .before .if1 .left) (c .next .ensures .0) (c .before .before .before .before .loop .inv .4))
 
--- src/lib.rt:127:1
 returns-2 : tie.Need-returns-2 Inv-loop μ-loop
 returns-2 c = search (shared-done, needs)
 

@@ -3,16 +3,11 @@ use Rattle.tables.specs.Cells.{stemBits}
 use Rattle.grammar.specs.Limits.{maxTerminals}
 use Rattle.predictions.specs.Hits.{columns}
 use Rattle.grammar.specs.Rows.{symbolSpace}
-use Prim.Native.Nat.{_+_, _-_, _*_, _≤_, _<_}
-use mathlib.Core.Path.{_≡_, refl}
-use lib.ListN.{length}
+use Prim.Native.Nat.{_≤_, _<_}
+use mathlib.Core.Path.{_≡_}
 use borrow.Author.Needs.{needs}
-use native.Mathlib.Omega.{arith}
 use Rattle.tables.proofs.stem_bits.Statement.{statement}
 use Rattle.tables.proofs.stem_bits.Tie as tie
-use Rattle.tables.proofs.stem_bits.Reads as reads
-use Rattle.tables.proofs.stem_bits.Lts as lts
-use Rattle.tables.proofs.next.Reads as next-reads
 
 abbrev Inv-loop : tie.InvT-loop
 Inv-loop steps t a from x₀ acc₀ k₀ x acc k = (t ≤ maxTerminals) × (a < columns) × (x < symbolSpace) × (k ≤ symbolSpace) × (stemBits steps t a symbolSpace from 0 ≡ stemBits steps t a k x acc)
@@ -20,35 +15,27 @@ Inv-loop steps t a from x₀ acc₀ k₀ x acc k = (t ≤ maxTerminals) × (a < 
 abbrev μ-loop : tie.MeasureT-loop
 μ-loop steps t a from x₀ acc₀ k₀ x acc k = k
 
--- src/lib.rt:101:5
 loop-holds : tie.Need-loop-holds Inv-loop μ-loop
 loop-holds c = search needs
 
--- src/lib.rt:102:9
 sub-k : tie.Need-sub-k Inv-loop μ-loop
 sub-k c = search needs
 
--- src/lib.rt:103:22
 shl-acc : tie.Need-shl-acc Inv-loop μ-loop
 shl-acc c = search needs
 
--- src/lib.rt:105:13
 returns : tie.Need-returns Inv-loop μ-loop
-returns c = stem-last  _ _ _ _ _ _ _ (search needs) (search needs) (c .if1 .taken) (c .before .before .loop .inv .4)
+returns c = stem-last _ _ _ _ _ _ _ (search needs) (search needs) (c .if1 .taken) (c .before .before .loop .inv .4)
 
--- src/lib.rt:107:9
 next-requires : tie.Need-next-requires Inv-loop μ-loop
 next-requires c κs = search needs
 
--- src/lib.rt:101:5
 loop-less : tie.Need-loop-less Inv-loop μ-loop
 loop-less c = search needs
 
--- src/lib.rt:101:5
 loop-again : tie.Need-loop-again Inv-loop μ-loop
-loop-again c = (search needs, search needs, search needs, search needs, stem-on  _ _ _ _ _ _ _ _ (search needs) (search needs) (search needs) (c .next .ensures .0) (c .before .before .before .loop .inv .4))
+loop-again c = (search needs, search needs, search needs, search needs, stem-on _ _ _ _ _ _ _ _ (search needs) (search needs) (search needs) (c .next .ensures .0) (c .before .before .before .loop .inv .4))
 
--- src/lib.rt:94:1
 returns-2 : tie.Need-returns-2 Inv-loop μ-loop
 returns-2 c = search (stem-done, needs)
 

@@ -3,17 +3,12 @@ use Rattle.tables.specs.Cells.{entryOf}
 use Rattle.tables.specs.Tables.{predictionsSize, breaksSize}
 use Rattle.sets.specs.Words.{setsSize}
 use Rattle.grammar.specs.Limits.{maxTerminals, maxNonterminals}
-use Prim.Native.Nat.{_+_, _-_, _*_, _≤_, _<_}
-use mathlib.Core.Path.{_≡_, refl}
+use Prim.Native.Nat.{_-_, _≤_}
+use mathlib.Core.Path.{_≡_}
 use lib.ListN.{length}
 use borrow.Author.Needs.{needs}
-use native.Mathlib.Omega.{arith}
 use Rattle.tables.proofs.write_breaks.Statement.{statement}
 use Rattle.tables.proofs.write_breaks.Tie as tie
-use Rattle.tables.proofs.write_breaks.Reads as reads
-use Rattle.tables.proofs.write_breaks.Lts as lts
-use Rattle.base.proofs.zero.Reads as zero-reads
-use Rattle.tables.proofs.fill_row.Reads as fill-row-reads
 
 abbrev Inv-loop : tie.InvT-loop
 Inv-loop sets steps masks t n w₀ r₀ w r = (length sets ≡ setsSize) × (length masks ≡ predictionsSize) × (t ≤ maxTerminals) × (n ≤ maxNonterminals) × (length w ≡ breaksSize) × (r ≤ n) × Broken (entryOf sets steps masks t) n r w
@@ -21,35 +16,27 @@ Inv-loop sets steps masks t n w₀ r₀ w r = (length sets ≡ setsSize) × (len
 abbrev μ-loop : tie.MeasureT-loop
 μ-loop sets steps masks t n w₀ r₀ w r = n - r
 
--- src/lib.rt:184:5
 zero-requires : tie.Need-zero-requires Inv-loop μ-loop
 zero-requires c κs = search needs
 
--- src/lib.rt:186:5
 loop-holds : tie.Need-loop-holds Inv-loop μ-loop
 loop-holds c = (search needs, search needs, search needs, search needs, search needs, search needs, search (broken-none, needs))
 
--- src/lib.rt:187:9
 fill-row-requires : tie.Need-fill-row-requires Inv-loop μ-loop
 fill-row-requires c κs = search needs
 
--- src/lib.rt:188:9
 add-r : tie.Need-add-r Inv-loop μ-loop
 add-r c = search needs
 
--- src/lib.rt:186:5
 loop-less : tie.Need-loop-less Inv-loop μ-loop
 loop-less c = search needs
 
--- src/lib.rt:186:5
 loop-again : tie.Need-loop-again Inv-loop μ-loop
-loop-again c = (search needs, search needs, search needs, search needs, search needs, search needs, broken-more  _ _ _ _ _ (search needs) (search needs) (c .before .before .before .before .before .loop .inv .6) (c .before .before .fill-row .ensures))
+loop-again c = (search needs, search needs, search needs, search needs, search needs, search needs, broken-more _ _ _ _ _ (search needs) (search needs) (c .before .before .before .before .before .loop .inv .6) (c .before .before .fill-row .ensures))
 
--- src/lib.rt:180:1
 same-length : tie.Need-same-length Inv-loop μ-loop
 same-length c = search needs
 
--- src/lib.rt:180:1
 returns : tie.Need-returns Inv-loop μ-loop
 returns c = search (broken-all, needs)
 
