@@ -1,10 +1,12 @@
 -- What is laid down are the tables of the grammar in the rows.
 use Prim.Native.Nat.{ℕ, _+_, _*_, _/_, _%_, _≤_, _<_}
 use mathlib.Core.Path.{_≡_, sym, _∙_}
+use mathlib.Core.Bool.{Bool}
 use mathlib.Core.List.{List}
 use lib.ListN.{getD}
 use lib.Seq.{getD-drop}
 use native.Mathlib.Omega.{arith}
+use Rattle.base.specs.Tells.{Tells}
 use Rattle.base.specs.Filled.{Filled}
 use Rattle.grammar.specs.Limits.{maxTerminals, maxNonterminals}
 use Rattle.grammar.specs.Grammar.{Grammar}
@@ -16,6 +18,7 @@ use Rattle.predictions.specs.Verdict.{predicts-hit, hit-predicts}
 use Rattle.tables.specs.Tables.{columns, predictionsSize, breakPlace, predictionPlace, Prediction, some, none, Tables}
 use Rattle.tables.specs.Cells.{stepOf, maskOf, entryOf}
 use Rattle.tables.specs.Points.{point}
+use Rattle.tables.specs.One.{tables-one}
 use Rattle.tables.specs.Writing.{Laid}
 
 -- what the writer needs to know
@@ -65,3 +68,9 @@ module _ (rows : List ℕ) (t n start count : ℕ) (s cells : List ℕ) (ready :
               rw (← getD-drop predictionsSize w (breakPlace R Q a) 0, laid .back .done R Q a x y z) (break-at R Q a x y z);
           other = λ R Q a x y z h. sym (getD-drop predictionsSize w (breakPlace R Q a) 0) ∙ laid .back .other R Q a x y z h;
         }
+
+-- the same bytes as the tables' are the tables, and no others are
+pub told-tables : (rows : List ℕ) (t n start count : ℕ) (s cells w own : List ℕ) (r : Bool) → Ready rows t n start count s cells → Tables (grammarIn rows t n start count) own
+    → Tells (w ≡ own) r → Tells (Tables (grammarIn rows t n start count) w) r
+told-tables rows t n start count s cells w own r ready h u =
+    record { yes = λ e. rw (u .yes e) h; no = λ e k. u .no e (tables-one (ready .prepared) k h) }

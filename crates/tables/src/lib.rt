@@ -3,6 +3,7 @@
 ghost use mathlib.Core.Path.{_≡_};
 ghost use Prim.Native.Nat.{_+_, _-_, _*_, _<_, _≤_};
 ghost use lib.ListN.{length};
+ghost use Rattle.base.specs.Tells.{Tells};
 ghost use Rattle.base.specs.Filled.{Filled};
 ghost use Rattle.grammar.specs.Limits.{maxTerminals, maxNonterminals};
 ghost use Rattle.grammar.specs.Rows.{symbolSpace, grammarIn};
@@ -239,4 +240,23 @@ pub fn write_tables(
     fill_steps(rows, sets, cells, t, &mut steps);
     fill_masks(&steps, t, n, &mut masks);
     lay(sets, cells, &steps, &masks, t, n, tables);
+}
+
+// Whether the bytes are what `write_tables` writes.
+pub fn is_prepared(
+    rows: &[u8],
+    t: usize,
+    n: usize,
+    start: usize,
+    count: usize,
+    sets: &[u32],
+    cells: &[u8],
+    tables: &[u8],
+) -> bool
+    requires { ⌜ Ready (now rows) t n start count (now sets) (now cells) ⌝ }
+    ensures { λ r. ⌜ Tells (Tables (grammarIn (now (rows .entry)) t n start count) (now (tables .entry))) r ⌝ }
+{
+    let mut own = [0u8; TABLES_SIZE];
+    write_tables(rows, t, n, start, count, sets, cells, &mut own);
+    base::same(tables, &own)
 }
