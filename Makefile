@@ -1,5 +1,5 @@
-# `make run` proves and builds what it shows; `make test` is the whole gate.
-.PHONY: run test clean
+# `make run` proves and builds what it shows; `make test` is the whole gate; `make bench` measures.
+.PHONY: run test bench clean
 
 run:
 	rt check show_grammar
@@ -11,6 +11,9 @@ run:
 
 test:
 	@tests/gate
+
+bench:
+	@tests/bench
 
 clean:
 	rm -rf target

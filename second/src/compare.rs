@@ -43,12 +43,8 @@ fn write_case(
         Some(offset) => writeln!(out, ", made bad at {offset}")?,
         None => writeln!(out)?,
     }
-    let image: Vec<String> = case
-        .image
-        .iter()
-        .map(|byte| format!("{byte:02x}"))
-        .collect();
-    writeln!(out, "image of {} bytes: {}", image.len(), image.join(" "))?;
+    let image = &case.image;
+    writeln!(out, "image of {} bytes: {}", image.len(), show::hex(image))?;
     write!(out, "the second program prints:\n{expected}")?;
     writeln!(
         out,

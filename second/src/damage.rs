@@ -1,7 +1,7 @@
 //! Images for comparing: the images of random grammars as they are, with one
 //! record made bad in a known way, or changed with an outcome left to reading.
 
-use crate::grammar::{MAX_BODY, MAX_NONTERMINALS, MAX_PRODUCTIONS, MAX_TERMINALS};
+use crate::grammar::{Grammar, MAX_BODY, MAX_NONTERMINALS, MAX_PRODUCTIONS, MAX_TERMINALS};
 use crate::image::{self, BEFORE_BODY_BYTES, HEAD_MARK, PRODUCTION_MARK};
 use crate::random::Random;
 use crate::random_grammar;
@@ -60,6 +60,9 @@ const CHANGES: [(&str, Change); 8] = [
     ("long image", lengthen),
 ];
 
+/// In how many ways an image comes about from a grammar.
+pub const KINDS: usize = FAULTS.len() + CHANGES.len();
+
 /// An image to compare, and how it came about.
 pub struct Case {
     pub kind: &'static str,
@@ -81,10 +84,15 @@ pub fn case(seed: u64, number: usize) -> Case {
         };
     }
     let mut random = Random::of_case(seed, number as u64);
-    let mut records = image::records(&random_grammar::any(&mut random));
-    let turn = number % (FAULTS.len() + CHANGES.len());
-    if let Some((kind, spoil)) = FAULTS.get(turn) {
-        let bad = spoil(&mut random, &mut records);
+    let grammar = random_grammar::any(&mut random);
+    of_kind(number % KINDS, &grammar, &mut random)
+}
+
+/// The image of a grammar with the fault or the change of one kind.
+pub fn of_kind(kind: usize, grammar: &Grammar, random: &mut Random) -> Case {
+    let mut records = image::records(grammar);
+    if let Some((kind, spoil)) = FAULTS.get(kind) {
+        let bad = spoil(random, &mut records);
         let bad_at = Some(records[..bad].concat().len());
         return Case {
             kind,
@@ -92,8 +100,8 @@ pub fn case(seed: u64, number: usize) -> Case {
             image: records.concat(),
         };
     }
-    let (kind, change) = CHANGES[turn - FAULTS.len()];
-    change(&mut random, &mut records);
+    let (kind, change) = CHANGES[kind - FAULTS.len()];
+    change(random, &mut records);
     Case {
         kind,
         bad_at: None,

@@ -6,14 +6,18 @@
 //! rustc -O --edition 2021 --test second/src/main.rs -o second-tests
 //! ```
 
+mod bench;
 mod compare;
 mod damage;
 mod grammar;
 mod image;
 mod per_symbol;
 mod prepare;
+mod prepare_case;
+mod prepares;
 mod random;
 mod random_grammar;
+mod random_ll1;
 mod reference;
 mod reply;
 mod sets;
@@ -28,13 +32,18 @@ mod samples;
 
 use std::error::Error;
 use std::io::{self, Read};
-use std::process::ExitCode;
+use std::process::{Command, ExitCode};
 
 const USAGE: &str = "usage:
   second show FILE|-                 the grammar that an image holds
   second prepare FILE|-              the reply of prepare and the table bytes that are not 0
   second images SEED COUNT PROGRAM [ARGUMENT ..]
-                                     compare PROGRAM with `show -` on COUNT images";
+                                     compare PROGRAM with `show -` on COUNT images
+  second prepares SEED COUNT PROGRAM [ARGUMENT ..]
+                                     compare PROGRAM with prepare on COUNT cases, which it
+                                     takes on standard input and answers on standard output
+  second bench-prepare COUNT FILE|-  nanoseconds of prepare and of copying the tables, each
+                                     the mean of COUNT calls";
 
 /// Exit status for a command that could not be carried out.
 const NOT_RUN: u8 = 2;
@@ -62,13 +71,29 @@ fn run(words: &[&str]) -> Result<ExitCode, Box<dyn Error>> {
         ["images", seed, count, program, ref arguments @ ..] => {
             let ask = |image: &[u8]| compare::ask_program(program, arguments, image);
             let failed = compare::images(seed.parse()?, count.parse()?, ask, &mut io::stdout())?;
-            Ok(if failed == 0 {
-                ExitCode::SUCCESS
-            } else {
-                ExitCode::FAILURE
-            })
+            Ok(status(failed))
+        }
+        ["prepares", seed, count, program, ref arguments @ ..] => {
+            let mut command = Command::new(program);
+            command.args(arguments);
+            let (seed, count) = (seed.parse()?, count.parse()?);
+            let failed = prepares::prepares(seed, count, &mut command, &mut io::stdout())?;
+            Ok(status(failed))
+        }
+        ["bench-prepare", count, source] => {
+            println!("{}", bench::prepare(count.parse()?, &read_source(source)?));
+            Ok(ExitCode::SUCCESS)
         }
         _ => Err(USAGE.into()),
+    }
+}
+
+/// Success if no case failed.
+fn status(failed: usize) -> ExitCode {
+    if failed == 0 {
+        ExitCode::SUCCESS
+    } else {
+        ExitCode::FAILURE
     }
 }
 

@@ -1,13 +1,19 @@
-//! The call prepare: from an image to its tables, or to the first of replies
-//! 1, 2 and 3 that applies.
+//! The call prepare: it writes the tables of an image's grammar, or gives the
+//! first of replies 1, 2, 3 and 4 that applies.
 
 use crate::image;
 use crate::reply::Reply;
 use crate::sets::Sets;
 use crate::tables;
 
-/// The tables of the grammar in an image.
-pub fn prepare(image: &[u8]) -> Result<Vec<u8>, Reply> {
+/// Writes the tables of the grammar in an image. A refusal leaves them as they
+/// were.
+pub fn prepare(image: &[u8], tables: &mut [u8]) -> Reply {
+    write_tables(image, tables).err().unwrap_or(Reply::ACCEPTED)
+}
+
+/// Writes the tables, or gives the refusal.
+fn write_tables(image: &[u8], tables: &mut [u8]) -> Result<(), Reply> {
     let grammar = image::read(image).map_err(Reply::bad_record)?;
     let sets = Sets::of(&grammar);
     if let Some(symbol) = sets.lowest_useless(&grammar) {
@@ -16,7 +22,9 @@ pub fn prepare(image: &[u8]) -> Result<Vec<u8>, Reply> {
     if let Some(symbol) = tables::lowest_conflict(&grammar, &sets) {
         return Err(Reply::conflict(symbol));
     }
-    Ok(tables::tables(&grammar, &sets))
+    let tables = tables.try_into().map_err(|_| Reply::OTHER_LENGTH)?;
+    tables::write(&grammar, &sets, tables);
+    Ok(())
 }
 
 #[cfg(test)]
@@ -27,16 +35,38 @@ mod tests {
     use crate::tables::TABLE_BYTES;
 
     fn assert_refused(number: u32, place: u64, image: &[u8]) {
+        let mut tables = [0xaa; TABLE_BYTES];
         assert_eq!(
-            prepare(image).err(),
-            Some(Reply { number, place }),
+            prepare(image, &mut tables),
+            Reply { number, place },
             "image {image:02x?}"
         );
+        assert_eq!(tables, [0xaa; TABLE_BYTES]);
     }
 
     #[test]
     fn the_reference_image_is_accepted() {
-        assert_eq!(prepare(&IMAGE).map(|tables| tables.len()), Ok(TABLE_BYTES));
+        let mut tables = [0xaa; TABLE_BYTES];
+        assert_eq!(prepare(&IMAGE, &mut tables), Reply::ACCEPTED);
+        assert!(!tables.contains(&0xaa));
+    }
+
+    #[test]
+    fn tables_of_another_length_are_reply_4_place_0() {
+        for length in [0, 1, TABLE_BYTES - 1, TABLE_BYTES + 1, 2 * TABLE_BYTES] {
+            let mut tables = vec![0xaa; length];
+            let reply = prepare(&IMAGE, &mut tables);
+            assert_eq!((reply.number, reply.place), (4, 0));
+            assert!(tables.iter().all(|&byte| byte == 0xaa));
+        }
+    }
+
+    #[test]
+    fn every_other_refusal_comes_before_the_length_of_the_tables() {
+        let conflict = samples::image(1, 1, 2, &[(2, &[]), (2, &[])]);
+        let images = [&IMAGE[..48], &IMAGE[..5], &conflict];
+        let numbers = images.map(|image| prepare(image, &mut []).number);
+        assert_eq!(numbers, [1, 2, 3]);
     }
 
     #[test]

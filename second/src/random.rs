@@ -41,6 +41,13 @@ impl Random {
         choices[self.below(choices.len())]
     }
 
+    /// Puts items into any order.
+    pub fn shuffle<T>(&mut self, items: &mut [T]) {
+        for last in (1..items.len()).rev() {
+            items.swap(last, self.below(last + 1));
+        }
+    }
+
     pub fn bytes(&mut self, count: usize) -> Vec<u8> {
         (0..count).map(|_| self.number() as u8).collect()
     }
@@ -70,6 +77,19 @@ mod tests {
         assert_eq!(bytes(1, 2), bytes(1, 2));
         assert_ne!(bytes(1, 2), bytes(1, 3));
         assert_ne!(bytes(1, 2), bytes(2, 2));
+    }
+
+    #[test]
+    fn shuffling_keeps_the_items_and_reaches_every_order() {
+        let mut random = Random::of_case(0, 1);
+        let mut orders = std::collections::HashSet::new();
+        for _ in 0..200 {
+            let mut items = [1, 2, 3];
+            random.shuffle(&mut items);
+            orders.insert(items);
+        }
+        assert_eq!(orders.len(), 6);
+        assert!(orders.iter().all(|items| items.iter().sum::<i32>() == 6));
     }
 
     #[test]

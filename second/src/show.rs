@@ -5,6 +5,7 @@ use crate::grammar::Grammar;
 use crate::image;
 use crate::prepare::prepare;
 use crate::reply::Reply;
+use crate::tables::TABLE_BYTES;
 
 /// The grammar of an image, or the refusal of it.
 pub fn grammar_text(image: &[u8]) -> String {
@@ -17,16 +18,23 @@ pub fn grammar_text(image: &[u8]) -> String {
 /// The reply of prepare and, if it accepts, a line with offset and value for
 /// each table byte that is not 0.
 pub fn tables_text(image: &[u8]) -> String {
-    match prepare(image) {
-        Ok(tables) => {
+    let mut tables = [0; TABLE_BYTES];
+    match prepare(image, &mut tables) {
+        Reply::ACCEPTED => {
             let used = tables.iter().enumerate().filter(|(_, &byte)| byte != 0);
             let lines = used.map(|(offset, byte)| format!("{offset} {byte}\n"));
             std::iter::once("accepted\n".to_string())
                 .chain(lines)
                 .collect()
         }
-        Err(reply) => refused(reply),
+        reply => refused(reply),
     }
+}
+
+/// Bytes in hexadecimal, one space apart.
+pub fn hex(bytes: &[u8]) -> String {
+    let digits: Vec<String> = bytes.iter().map(|byte| format!("{byte:02x}")).collect();
+    digits.join(" ")
 }
 
 /// A line for the head, then one for each production.
@@ -78,6 +86,11 @@ mod tests {
     fn a_bad_image_is_shown_with_its_offset() {
         assert_eq!(grammar_text(&[]), "refused 1 0\n");
         assert_eq!(grammar_text(&IMAGE[..48]), "refused 1 45\n");
+    }
+
+    #[test]
+    fn bytes_are_shown_by_two_digits_each() {
+        assert_eq!(hex(&[0, 0x47, 255]), "00 47 ff");
     }
 
     #[test]

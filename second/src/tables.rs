@@ -36,12 +36,11 @@ pub fn lowest_conflict(grammar: &Grammar, sets: &Sets) -> Option<u8> {
     in_conflict.lowest()
 }
 
-/// The tables of an LL(1) grammar without useless symbols.
-pub fn tables(grammar: &Grammar, sets: &Sets) -> Vec<u8> {
-    let mut tables = vec![0; TABLE_BYTES];
-    write_predictions(grammar, sets, &mut tables);
-    write_break_points(grammar, sets, &mut tables);
-    tables
+/// Writes the tables of an LL(1) grammar without useless symbols.
+pub fn write(grammar: &Grammar, sets: &Sets, tables: &mut [u8; TABLE_BYTES]) {
+    tables.fill(0);
+    write_predictions(grammar, sets, tables);
+    write_break_points(grammar, sets, tables);
 }
 
 fn write_predictions(grammar: &Grammar, sets: &Sets, tables: &mut [u8]) {

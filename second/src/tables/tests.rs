@@ -15,7 +15,7 @@ const BAR: u8 = 10;
 /// The tables of a grammar, with its symbols as indices.
 struct Prepared {
     grammar: Grammar,
-    bytes: Vec<u8>,
+    bytes: [u8; TABLE_BYTES],
 }
 
 impl Prepared {
@@ -23,7 +23,8 @@ impl Prepared {
         let sets = Sets::of(&grammar);
         assert_eq!(sets.lowest_useless(&grammar), None);
         assert_eq!(lowest_conflict(&grammar, &sets), None);
-        let bytes = tables(&grammar, &sets);
+        let mut bytes = [0; TABLE_BYTES];
+        write(&grammar, &sets, &mut bytes);
         Prepared { grammar, bytes }
     }
 
