@@ -35,7 +35,7 @@ module _ (rows : List ℕ) (t n start count : ℕ) (s cells : List ℕ) (ready :
   unfolding grammarIn
   ready-few = (ready .prepared .formed .head .terminals .1, ready .prepared .formed .head .nonterminals .1)
 
-  cell-prediction : {M a v : ℕ} → Cell rows s count M a v → Prediction G M a v
+  pub cell-prediction : {M a v : ℕ} → Cell rows s count M a v → Prediction G M a v
   cell-prediction (empty f) = none (λ q h. let x = predicts-hit rows t n start count s (ready .known) (ready .prepared .formed) h in f (x .0) (x .2) (x .3))
   cell-prediction (full l h) = some (hit-predicts rows t n start count s (ready .known) (ready .prepared .formed) (ready .prepared .useful) l h)
 

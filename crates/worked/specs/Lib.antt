@@ -1,0 +1,3 @@
+pub mod Words
+pub mod Ready
+pub mod Examples
