@@ -39,9 +39,9 @@ module _ (rows : List ℕ) (t n start count : ℕ) (s cells : List ℕ) (ready :
   cell-prediction (empty f) = none (λ q h. let x = predicts-hit rows t n start count s (ready .known) (ready .prepared .formed) h in f (x .0) (x .2) (x .3))
   cell-prediction (full l h) = some (hit-predicts rows t n start count s (ready .known) (ready .prepared .formed) (ready .prepared .useful) l h)
 
-  module _ (st₀ steps m₀ masks w : List ℕ) (fs : Filled (stepOf rows s cells t) 0 predictionsSize st₀ steps) (fm : Filled (maskOf steps t) 0 (n * columns) m₀ masks)
+  module _ (st₀ steps m₀ masks w : List ℕ) (fs : Filled (stepOf rows s cells t) 0 (n * columns) st₀ steps) (fm : Filled (maskOf steps t) 0 (n * columns) m₀ masks)
       (laid : Laid cells (entryOf s steps masks t) n w) where
-    step-at : (i : ℕ) → i < columns * columns → getD steps i 0 ≡ stepOf rows s cells t i
+    step-at : (i : ℕ) → i < n * columns → getD steps i 0 ≡ stepOf rows s cells t i
     step-at i l = let z : 0 + i ≡ i = omega arith in rw z at (fs .inside i l)
 
     break-at : (R Q a : ℕ) → R < n → Q < n → a < columns → Break G (t + 1 + R) (t + 1 + Q) a (entryOf s steps masks t R (Q * columns + a))

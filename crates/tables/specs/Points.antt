@@ -114,7 +114,7 @@ module _ (rows : List ℕ) (t n start count : ℕ) (s : List ℕ) (known : Known
       let d : q .0 ≡ u = cc in
       rw d at (q .1)
 
-  module _ (steps : List ℕ) (filled : (i : ℕ) → i < columns * columns → getD steps i 0 ≡ stepOf rows s cells t i) where
+  module _ (steps : List ℕ) (filled : (i : ℕ) → i < n * columns → getD steps i 0 ≡ stepOf rows s cells t i) where
     next-path : {a M x : ℕ} {u γ : List ℕ} {p : ℕ} (α β : List ℕ) → Rule G p M γ → γ ≡ α ++ x ∷ β → Vanish G α → Path G a x u → Path G a (next steps t a M) u
     unfolding next stepOf choose
     next-path {a} {M} {x} {u} {γ} {p} α β r e v h =
@@ -128,7 +128,7 @@ module _ (rows : List ℕ) (t n start count : ℕ) (s : List ℕ) (known : Known
         let hm : hasb (getD s M 0) a ≡ true = has-hasb (getD s M 0) a (known-first known M a (rule-small p M γ r) (w .0) .1 (begin-first (b-rule r b))) in
         let c : Cell rows s count M a (getD cells i 0) = rw zm at (listed .cell (M - t - 1) a (omega (arith, some-n)) (omega (arith, few))) in
         let f : getD steps i 0 ≡ lead s a (bodyAt rows (getD cells i 0 - 1)) =
-        filled i (omega (arith, few, some-n)) ∙ rw (za, zi, zm, ne-eqb a 0 (omega arith), hm)
+        filled i (omega (arith, few, some-n, m .0, m .1)) ∙ rw (za, zi, zm, ne-eqb a 0 (omega arith), hm)
         in
         let k = down-path α β r e v h (lead s a (bodyAt rows (getD cells i 0 - 1))) (cell-step (omega (arith, few)) (w .0) r b c) in
         let l : lead s a (bodyAt rows (getD cells i 0 - 1)) % symbolSpace ≡ lead s a (bodyAt rows (getD cells i 0 - 1)) = omega (arith, path-small k) in

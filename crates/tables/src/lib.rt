@@ -78,12 +78,12 @@ fn step_of(rows: &[u8], sets: &[u32], cells: &[u8], t: usize, i: usize) -> u8
     0
 }
 
-fn fill_steps(rows: &[u8], sets: &[u32], cells: &[u8], t: usize, steps: &mut [u8])
-    requires { ⌜ (length (now sets) ≡ setsSize) × (t ≤ maxTerminals) × (length (now steps) ≡ predictionsSize) ⌝ }
-    ensures { λ _. ⌜ Filled (stepOf (now (rows .entry)) (now (sets .entry)) (now (cells .entry)) t) 0 predictionsSize (now (steps .entry)) (now (steps .exit)) ⌝ }
+fn fill_steps(rows: &[u8], sets: &[u32], cells: &[u8], t: usize, n: usize, steps: &mut [u8])
+    requires { ⌜ (length (now sets) ≡ setsSize) × (t ≤ maxTerminals) × (n ≤ maxNonterminals) × (length (now steps) ≡ predictionsSize) ⌝ }
+    ensures { λ _. ⌜ Filled (stepOf (now (rows .entry)) (now (sets .entry)) (now (cells .entry)) t) 0 (n * columns) (now (steps .entry)) (now (steps .exit)) ⌝ }
 {
     let mut i: usize = 0;
-    while i < PREDICTIONS_SIZE {
+    while i < n * COLUMNS {
         steps[0 + i] = step_of(rows, sets, cells, t, i);
         i += 1;
     }
@@ -237,7 +237,7 @@ pub fn write_tables(
 {
     let mut steps = [0u8; PREDICTIONS_SIZE];
     let mut masks = [0u64; PREDICTIONS_SIZE];
-    fill_steps(rows, sets, cells, t, &mut steps);
+    fill_steps(rows, sets, cells, t, n, &mut steps);
     fill_masks(&steps, t, n, &mut masks);
     lay(sets, cells, &steps, &masks, t, n, tables);
 }

@@ -84,7 +84,7 @@ entryAt R Q a = choose (ltb R 5) (λ _. choose (ltb Q 5) (λ _. entry (6 + R) (6
 
 entry-is : (M N a : ℕ) → M < symbolSpace → N < symbolSpace → a < columns → Break G M N a (entry M N a)
 unfolding entry
-entry-is M N a l m k = point rows 5 5 6 8 words known prepared cells listed steps step-is M N a (stemBits steps 5 a symbolSpace N 0) l m k refl
+entry-is M N a l m k = point rows 5 5 6 8 words known prepared cells listed steps (λ i x. step-is i (omega arith)) M N a (stemBits steps 5 a symbolSpace N 0) l m k refl
 
 as-reference : {M N a v : ℕ} → Break G M N a v → Break reference M N a v
 as-reference {M} {N} {a} {v} h = subst (λ (K : Grammar). Break K M N a v) is-reference h
