@@ -1,12 +1,13 @@
 -- Derivation trees and rewriting say the same: a tree of X with yield w exists exactly when X ⇒* w.
 use mathlib.Core.Path.{_≡_, refl, ap, _∙_}
 use mathlib.Core.Logic.{_↔_}
-use Prim.Native.Nat.{ℕ}
+use Prim.Native.Nat.{ℕ, _+_}
 use mathlib.Core.List.{List, [], _∷_, _++_, append-assoc, append-nil}
+use native.Mathlib.Omega.{arith}
 use Rattle.grammar.specs.Each.{Each}
 use Rattle.grammar.specs.Grammar.{Grammar, Terminal}
 use Rattle.grammar.specs.Derivation.{Step, at, Steps, stop, then}
-use Rattle.grammar.specs.Forest.{Token, kinds, Forest, yield, Derives, Tree}
+use Rattle.grammar.specs.Forest.{Token, kinds, Forest, size, yield, Derives, Tree}
 
 -- ---- a forest behind a forest
 
@@ -23,6 +24,11 @@ pub yield-join : (k r : Forest) → yield (join k r) ≡ yield k ++ yield r
 yield-join Forest.nil r = refl
 yield-join (Forest.leaf s a g k) r = rw (yield-join k r)
 yield-join (Forest.node s M p k k') r = rw (yield-join k' r, append-assoc)
+
+pub size-join : (k r : Forest) → size (join k r) ≡ size k + size r
+size-join Forest.nil r = omega arith
+size-join (Forest.leaf s a g k) r = omega (arith, size-join k r)
+size-join (Forest.node s M p k k') r = omega (arith, size-join k' r)
 
 -- a forest of a concatenation falls into two
 pub record Parts (G : Grammar) (xs ys : List ℕ) (f : Forest) : Type 0 where

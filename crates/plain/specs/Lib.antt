@@ -1,0 +1,6 @@
+-- The meaning
+pub mod Plain
+-- Laws
+pub mod One
+pub mod Traced
+pub mod Exactly

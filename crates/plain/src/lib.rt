@@ -1,0 +1,1 @@
+// The worked examples are theorems about the definitions; there is no code.
