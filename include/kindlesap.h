@@ -27,8 +27,8 @@ extern "C" {
  *  No.  given exactly when                                                      place
  *   0   accepted                                                                0
  *   1   a grammar record is bad, or the image is empty                          byte offset of the first bad one
- *   2   a nonterminal derives no terminal string, or no string derived from
- *       the start symbol holds it                                               lowest such symbol
+ *   2   a nonterminal derives no terminal string (the empty one counts), or
+ *       no string derived from the start symbol holds it                        lowest such symbol
  *   3   the grammar is not LL(1)                                                lowest nonterminal in conflict
  *   4   the tables are of another length                                        0
  *
@@ -46,8 +46,9 @@ extern "C" {
  * Prepares the tables of a grammar image.
  *
  * The image: `47 48`, t, n, start symbol; then up to 128 productions, each `47 50`, left side, body length 0..8, body symbols (bytes in
- * hexadecimal). Terminals are 1..t (t is 1..31), nonterminals t+1..t+n (n is 1..32). Replies 1, 2, 3, 4. If accepted, all
- * KINDLESAP_TABLES_SIZE bytes of the tables are written.
+ * hexadecimal). Terminals are 1..t (t is 1..31), nonterminals t+1..t+n (n is 1..32). The head comes first and only once; start and left
+ * sides are nonterminals, body symbols 1..t+n; the image's end falls between records. A record that breaks a rule is bad, and so is a
+ * 129th production. Replies 1, 2, 3, 4. If accepted, all KINDLESAP_TABLES_SIZE bytes of the tables are written.
  */
 void kindlesap_prepare(const uint8_t *grammar, size_t grammar_len, uint8_t *tables, size_t tables_len, uint8_t *reply, size_t reply_len);
 

@@ -120,8 +120,8 @@ bits-one zero a b l m f g = omega arith
 bits-one (suc k) a b l m f g =
     let e = pow-succ' 2 k in
     let h = bits-one k (a / 2) (b / 2) (omega (arith, e)) (omega (arith, e))
-        (λ i x y. record { is = f (suc i) (omega arith) (record { is = y .is }) .is })
-        (λ i x y. record { is = g (suc i) (omega arith) (record { is = y .is }) .is }) in
+    (λ i x y. record { is = f (suc i) (omega arith) (record { is = y .is }) .is })
+    (λ i x y. record { is = g (suc i) (omega arith) (record { is = y .is }) .is }) in
     let p : a % 2 ≡ 1 → b % 2 ≡ 1 = λ x. f 0 (omega arith) (record { is = x }) .is in
     let q : b % 2 ≡ 1 → a % 2 ≡ 1 = λ x. g 0 (omega arith) (record { is = x }) .is in
     by-cases (ℕ-discrete (a % 2) 1) (λ x. omega (arith, h, x, p x)) (λ x. by-cases (ℕ-discrete (b % 2) 1) (λ y. absurd (x (q y))) (λ y. omega (arith, h, x, y)))

@@ -1,5 +1,5 @@
 -- A sentence is accepted exactly when it has a derivation tree that fits the slots; it has one at most.
-use Prim.Native.Nat.{ℕ, suc, _+_, _≤_, _<_}
+use Prim.Native.Nat.{ℕ, _+_, _≤_, _<_}
 use mathlib.Core.Path.{_≡_, refl, sym, ap, _∙_, subst}
 use mathlib.Core.Logic.{_↔_}
 use mathlib.Core.List.{List, [], _∷_, _++_, append-nil}
@@ -7,11 +7,11 @@ use lib.ListN.{length, length-append}
 use native.Mathlib.Omega.{arith}
 use Rattle.base.specs.Choose.{never}
 use Rattle.grammar.specs.Each.{Each}
-use Rattle.grammar.specs.Grammar.{Grammar, Rule, Terminal}
-use Rattle.grammar.specs.Derivation.{Steps, stop}
+use Rattle.grammar.specs.Grammar.{Grammar}
+use Rattle.grammar.specs.Derivation.{stop}
 use Rattle.grammar.specs.Prediction.{Prepared}
-use Rattle.grammar.specs.Forest.{Token, kinds, Forest, size, yield, Derives, Tree}
-use Rattle.grammar.specs.Trees.{join, yield-join, size-join, parts}
+use Rattle.grammar.specs.Forest.{Token, Forest, size, yield, Derives, Tree}
+use Rattle.grammar.specs.Trees.{yield-join, size-join, parts}
 use Rattle.plain.specs.Plain.{Verdict, accepted, noRoom, Runs, accepts, matches, expands, crowded, stuck, Parses}
 use Rattle.plain.specs.Traced.{Traced, Same, through, full, traced, same}
 
@@ -31,17 +31,22 @@ module _ {G : Grammar} {S : ℕ} where
       let b = sound n h l e in
       let d : Derives G (M ∷ xs) (Forest.leaf 0 (k .kind) (k .tag) (b .forest)) = rw q (Derives.leaf (rw q at t) (b .derives)) in
       record {
-        forest = Forest.leaf 0 (k .kind) (k .tag) (b .forest); derives = d; yields = ap (λ (u : List Token). k ∷ u) (b .yields);
-        count = omega (arith, b .count); fits = b .fits
+        forest = Forest.leaf 0 (k .kind) (k .tag) (b .forest);
+        derives = d;
+        yields = ap (λ (u : List Token). k ∷ u) (b .yields);
+        count = omega (arith, b .count);
+        fits = b .fits;
       }
   sound n (expands {M = M} {p = p} {γ = γ} {xs = xs} x r m h) l e =
       let b = sound n h m e in
       let q = parts γ (b .derives) in
       let s = q .is in
       record {
-        forest = Forest.node 0 M p (q .front) (q .back); derives = Derives.node r (q .left) (q .right);
+        forest = Forest.node 0 M p (q .front) (q .back);
+        derives = Derives.node r (q .left) (q .right);
         yields = sym (yield-join (q .front) (q .back)) ∙ ap yield (sym s) ∙ b .yields;
-        count = omega (arith, b .count, length-append γ xs, ap size s, size-join (q .front) (q .back)); fits = b .fits
+        count = omega (arith, b .count, length-append γ xs, ap size s, size-join (q .front) (q .back));
+        fits = b .fits;
       }
   sound n (crowded x r m) l e = never (cc)
   sound n (stuck m d) l e = never (cc)

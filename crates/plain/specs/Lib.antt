@@ -1,6 +1,6 @@
--- The meaning
+-- Meaning: the plain parse.
 pub mod Plain
--- Laws
+-- Laws: one verdict; the parse over a forest; which sentences are accepted.
 pub mod One
 pub mod Traced
 pub mod Exactly

@@ -1,17 +1,17 @@
 -- A parse has one verdict.
-use Prim.Native.Nat.{ℕ, suc, _+_, _≤_, _<_}
-use mathlib.Core.Path.{_≡_, refl, sym, ap, subst}
-use mathlib.Core.List.{List, [], _∷_, _++_}
+use Prim.Native.Nat.{ℕ, suc, _+_}
+use mathlib.Core.Path.{_≡_, refl, ap, subst}
+use mathlib.Core.List.{List, _∷_, _++_}
 use lib.ListN.{length}
 use native.Mathlib.Omega.{arith}
-use Rattle.base.specs.Bits.{Has, bits-one}
+use Rattle.base.specs.Bits.{bits-one}
 use Rattle.grammar.specs.Limits.{maxTerminals}
 use Rattle.grammar.specs.Grammar.{Grammar, Rule, Terminal}
 use Rattle.grammar.specs.Rules.{rule-one, rule-left}
 use Rattle.grammar.specs.Prediction.{Predicts, Prepared}
 use Rattle.grammar.specs.Single.{ll1-one}
 use Rattle.grammar.specs.Forest.{Token}
-use Rattle.plain.specs.Plain.{Expects, prediction, itself, end, Expected, Verdict, accepted, syntax, noRoom, Runs, accepts, matches, expands, crowded, stuck, ahead}
+use Rattle.plain.specs.Plain.{Expects, prediction, itself, end, Expected, Verdict, syntax, Runs, accepts, matches, expands, crowded, stuck}
 
 pub expected-one : {G : Grammar} {xs : List ℕ} {e d : ℕ} → Expected G xs e → Expected G xs d → e ≡ d
 expected-one {e = e} {d = d} h k =

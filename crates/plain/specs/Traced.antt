@@ -1,17 +1,16 @@
 -- A parse and a forest: the parse comes out behind the forest, or runs out of room inside it; a sentence has one derivation tree.
 use Prim.Native.Nat.{ℕ, suc, _+_, _≤_, _<_}
-use mathlib.Core.Path.{_≡_, refl, sym, ap, ap₂, _∙_, subst}
+use mathlib.Core.Path.{_≡_, refl, sym, ap, _∙_, subst}
 use mathlib.Core.Logic.{by-cases}
 use mathlib.Core.List.{List, [], _∷_, _++_, append-assoc, append-nil}
 use lib.ListN.{length, length-append}
 use native.Mathlib.Decide.{decLt}
 use native.Mathlib.Omega.{arith}
-use Rattle.base.specs.Choose.{never}
 use Rattle.grammar.specs.Limits.{endMark}
 use Rattle.grammar.specs.Each.{Each, each-join}
 use Rattle.grammar.specs.Grammar.{Grammar, Rule, Terminal}
 use Rattle.grammar.specs.Rules.{rule-one, rule-left}
-use Rattle.grammar.specs.Derivation.{Step, at, Steps, stop, then, Nullable, Follow, inside, ending}
+use Rattle.grammar.specs.Derivation.{at, Steps, stop, then, Follow, inside, ending}
 use Rattle.grammar.specs.Prediction.{Predicts, by-first, by-follow, Prepared}
 use Rattle.grammar.specs.Single.{ll1-one}
 use Rattle.grammar.specs.Forest.{Token, kinds, Forest, size, yield, Derives}
@@ -74,13 +73,13 @@ module _ {G : Grammar} {S : ℕ} where
   full ys w c i (Derives.node {M = M} {p = p} {γ = γ} {xs = xs} {k = k} {r = f} r e d) (Traced.node x b b') l m =
       let a = front-append (yield f) w endMark in
       let o : (c + length γ ≤ S) → Runs G S (γ ++ (xs ++ ys)) (yield k ++ (yield f ++ w)) (c + length γ) i noRoom =
-          λ n. by-cases (decLt S (c + size k))
-          (λ o. full (xs ++ ys) (yield f ++ w) (c + length γ) i e (rw a b) n (omega (arith, o)))
-          (λ o. through (xs ++ ys) (yield f ++ w) noRoom (c + length γ) (c + size k) i e (rw a b) (omega arith) (omega (arith, o))
-          (full ys w (c + size k) (i + length (yield k)) d b' (omega (arith, o)) (omega (arith, m)))) in
+      λ n. by-cases (decLt S (c + size k))
+      (λ o. full (xs ++ ys) (yield f ++ w) (c + length γ) i e (rw a b) n (omega (arith, o)))
+      (λ o. through (xs ++ ys) (yield f ++ w) noRoom (c + length γ) (c + size k) i e (rw a b) (omega arith) (omega (arith, o))
+      (full ys w (c + size k) (i + length (yield k)) d b' (omega (arith, o)) (omega (arith, m)))) in
       let j : Predicts G M (ahead (yield k ++ (yield f ++ w))) p = rw (front-append (yield k) (yield f ++ w) endMark, a) x in
       let n : Runs G S (M ∷ (xs ++ ys)) (yield k ++ (yield f ++ w)) c i noRoom =
-          by-cases (decLt S (c + length γ)) (λ n. crowded {c = c} j r n) (λ n. let n' : c + length γ ≤ S = omega (arith, n) in expands {c = c} j r n' (o n')) in
+      by-cases (decLt S (c + length γ)) (λ n. crowded {c = c} j r n) (λ n. let n' : c + length γ ≤ S = omega (arith, n) in expands {c = c} j r n' (o n')) in
       rw (append-assoc (yield k) (yield f) w) n
 
 -- ---- in a sentence every forest is traced
@@ -111,7 +110,7 @@ module _ {G : Grammar} where
   traced α ys w (Derives.leaf {a = a} {xs = xs} x d) t s z = Traced.leaf (traced (α ++ a ∷ []) ys w d t (rw (append-assoc α (a ∷ []) (xs ++ ys)) s) z)
   traced α ys w (Derives.node {M = M} {γ = γ} {xs = xs} {k = k} {r = f} r e d) t s z =
       let o : Steps G (xs ++ ys) (kinds (yield f ++ w)) =
-          rw (kinds-append (yield f) w) (trans (steps-in [] ys (steps-of d)) (simp append-nil at (steps-in (kinds (yield f)) [] z))) in
+      rw (kinds-append (yield f) w) (trans (steps-in [] ys (steps-of d)) (simp append-nil at (steps-in (kinds (yield f)) [] z))) in
       let j : Each (Terminal G) (kinds (yield f ++ w)) = rw (kinds-append (yield f) w) (each-join (terminals d) t) in
       let a = front-append (yield f) w endMark in
       Traced.node

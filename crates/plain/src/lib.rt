@@ -1,1 +1,1 @@
-// The worked examples are theorems about the definitions; there is no code.
+// The plain parse so far is definitions and theorems; there is no code yet.

@@ -1,3 +1,4 @@
+-- Laws: what words of bits say, that a sweep keeps it true, that words which a sweep leaves as they are say everything.
 pub mod Closures
 pub mod Words
 pub mod Growth

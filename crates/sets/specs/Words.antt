@@ -10,7 +10,7 @@ use Rattle.base.specs.Blocks.{zeros}
 use Rattle.grammar.specs.Rows.{leftAt, lengthAt, symbolsFrom}
 
 -- word X: bit 0 if X may derive nothing, bit a if a is in FIRST(X).
--- Word follows + X: bit a if the lookahead a is in FOLLOW(X). Word marks + X: bit 0 if X is productive, bit 1 if X is reachable
+-- Word follows + X: bit a if the lookahead a is in FOLLOW(X), provided that every left side is reachable (`known-follow`). Word marks + X: bit 0 if X is productive, bit 1 if X is reachable
 abbrev pub follows : ℕ
 follows = 64
 

@@ -1,4 +1,6 @@
+-- Meaning: the tables.
 pub mod Tables
+-- Laws: there is one such list of bytes; how the code finds and writes it.
 pub mod One
 pub mod Cells
 pub mod Short

@@ -1,4 +1,6 @@
+-- The reference grammar's words and cells, computed.
 pub mod Words
 pub mod Ready
+-- The table of examples, and poor programs that the contract rules out.
 pub mod Examples
 pub mod Poor
