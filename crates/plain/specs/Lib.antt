@@ -4,3 +4,4 @@ pub mod Plain
 pub mod One
 pub mod Traced
 pub mod Exactly
+pub mod Viable

@@ -18,7 +18,7 @@ expected-one {e = e} {d = d} h k =
     bits-one (suc maxTerminals) e d (h .small) (k .small) (λ i _ x. k .all i (h .only i x)) (λ i _ x. h .all i (k .only i x))
 
 module _ {G : Grammar} (g : Prepared G) where
-  no-rule : {A : Type 0} {M p : ℕ} {γ : List ℕ} → Terminal G M → Rule G p M γ → A
+  pub no-rule : {A : Type 0} {M p : ℕ} {γ : List ℕ} → Terminal G M → Rule G p M γ → A
   no-rule t r = absurd (let l = rule-left (g .formed) r in omega (arith, t .1, l .0))
 
   same-body : {M a p q : ℕ} {γ δ : List ℕ} → Predicts G M a p → Rule G p M γ → Predicts G M a q → Rule G q M δ → δ ≡ γ
