@@ -1,5 +1,5 @@
 -- Sets of small numbers as the bits of a number: which are in it, and what `|`, a shift and the lowest bit do.
-use Prim.Native.Nat.{ℕ, zero, suc, _-_, _/_, _%_, _^_, _≤_, _<_, max}
+use Prim.Native.Nat.{ℕ, zero, suc, _+_, _*_, _-_, _/_, _%_, _^_, _≤_, _<_, max}
 use mathlib.Core.Path.{_≡_, refl, ap, sym, _∙_}
 use mathlib.Core.Logic.{_⊎_, inl, inr, by-cases}
 use native.Mathlib.Nat.{pow-suc, pow-succ', div-div-eq-div-mul}
@@ -125,3 +125,34 @@ bits-one (suc k) a b l m f g =
     let p : a % 2 ≡ 1 → b % 2 ≡ 1 = λ x. f 0 (omega arith) (record { is = x }) .is in
     let q : b % 2 ≡ 1 → a % 2 ≡ 1 = λ x. g 0 (omega arith) (record { is = x }) .is in
     by-cases (ℕ-discrete (a % 2) 1) (λ x. omega (arith, h, x, p x)) (λ x. by-cases (ℕ-discrete (b % 2) 1) (λ y. absurd (x (q y))) (λ y. omega (arith, h, x, y)))
+
+-- a number below 2 ^ k for any decidable set of numbers below k
+
+pub record Gathered (P : ℕ → Type 0) (k m : ℕ) : Type 0 where
+  pub small : m < 2 ^ k
+  pub all : (i : ℕ) → i < k → P i → Has m i
+  pub only : (i : ℕ) → Has m i → P i
+
+gather-step : (P : ℕ → Type 0) (k m b : ℕ) → b ≤ 1 → (P 0 → b ≡ 1) → (b ≡ 1 → P 0) → Gathered (λ i. P (suc i)) k m → Gathered P (suc k) (2 * m + b)
+unfolding bit
+gather-step P k m b l f g h =
+    let q : (2 * m + b) / 2 ≡ m = omega arith in
+    let z : (2 * m + b) % 2 ≡ b = omega arith in
+    record { small = omega (arith, pow-succ' 2 k, h .small); all = fill q z; only = look q z }
+  where
+    fill : (2 * m + b) / 2 ≡ m → (2 * m + b) % 2 ≡ b → (i : ℕ) → i < suc k → P i → Has (2 * m + b) i
+    fill q z zero j x = record { is = z ∙ f x }
+    fill q z (suc i) j x = record { is = ap (bit i) q ∙ h .all i (omega arith) x .is }
+
+    look : (2 * m + b) / 2 ≡ m → (2 * m + b) % 2 ≡ b → (i : ℕ) → Has (2 * m + b) i → P i
+    look q z zero x = g (sym z ∙ x .is)
+    look q z (suc i) x = h .only i (record { is = ap (bit i) (sym q) ∙ x .is })
+
+pub gather : (P : ℕ → Type 0) → ((i : ℕ) → Dec (P i)) → (k : ℕ) → (m : ℕ) × Gathered P k m
+unfolding bit
+gather P d zero = (0, record { small = omega arith; all = λ i l. absurd (omega arith); only = λ i h. absurd (none-has i h) })
+gather P d (suc k) =
+    let h = gather (λ i. P (suc i)) (λ i. d (suc i)) k in
+    by-cases (d 0)
+    (λ x. (2 * h .0 + 1, gather-step P k (h .0) 1 (omega arith) (λ _. refl) (λ _. x) (h .1)))
+    (λ x. (2 * h .0 + 0, gather-step P k (h .0) 0 (omega arith) (λ y. absurd (x y)) (λ e. absurd (omega (arith, e))) (h .1)))

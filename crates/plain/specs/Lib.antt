@@ -1,7 +1,8 @@
 -- Meaning: the plain parse.
 pub mod Plain
--- Laws: one verdict; the parse over a forest; which sentences are accepted.
+-- Laws: one verdict; the parse over a forest; which sentences are accepted; reply 9's place; every parse ends.
 pub mod One
 pub mod Traced
 pub mod Exactly
 pub mod Viable
+pub mod Ends

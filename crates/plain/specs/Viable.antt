@@ -1,20 +1,20 @@
 -- Reply 9's place: how many tokens are in the longest beginning of the sentence that also begins some sentence of the language.
-use Prim.Native.Nat.{ℕ, suc, _+_, _≤_, _<_}
+use Prim.Native.Nat.{ℕ, _+_, _≤_}
 use mathlib.Core.Path.{_≡_, refl, sym, ap, _∙_, subst}
 use mathlib.Core.Logic.{by-cases}
 use mathlib.Core.List.{List, [], _∷_, _++_, append-assoc, append-nil}
-use lib.ListN.{length, length-append}
+use lib.ListN.{length}
 use native.Mathlib.Decide.{decLt}
 use native.Mathlib.Omega.{arith}
 use Rattle.base.specs.Choose.{never}
 use Rattle.grammar.specs.Limits.{endMark}
 use Rattle.grammar.specs.Each.{Each, each-join}
-use Rattle.grammar.specs.Grammar.{Grammar, Rule, Terminal, SymbolOf}
-use Rattle.grammar.specs.Rules.{rule-one, rule-left, rule-allowed}
-use Rattle.grammar.specs.Derivation.{Step, at, Steps, stop, then, Productive}
+use Rattle.grammar.specs.Grammar.{Grammar, SymbolOf}
+use Rattle.grammar.specs.Rules.{rule-one, rule-allowed}
+use Rattle.grammar.specs.Derivation.{at, Steps, stop, then}
 use Rattle.grammar.specs.Prediction.{Predicts, Prepared}
 use Rattle.grammar.specs.Single.{ll1-one}
-use Rattle.grammar.specs.Forest.{Token, kinds, Forest, size, yield, Derives, Tree}
+use Rattle.grammar.specs.Forest.{Token, kinds, Forest, yield, Derives, Tree}
 use Rattle.grammar.specs.Trees.{join, yield-join, derives-join, parts, trans, steps-in, forest-of}
 use Rattle.sets.specs.Decidable.{useful-productive}
 use Rattle.plain.specs.Plain.{front, ahead, Expects, prediction, itself, end, Verdict, syntax, Runs, accepts, matches, expands, crowded, stuck, Parses}
@@ -111,9 +111,9 @@ module _ {G : Grammar} (g : Prepared G) where
   grown {X} s =
       by-cases (decLt (G .t) X)
       (λ l. let p = useful-productive G (g .formed) (g .useful) X (l, s .1) in
-          let e = kinds-untagged (p .0) in
-          let q = forest-of {xs = X ∷ []} (untagged (p .0)) (rw e (p .1)) (rw e (p .2)) in
-          (q .0, q .1))
+      let e = kinds-untagged (p .0) in
+      let q = forest-of {xs = X ∷ []} (untagged (p .0)) (rw e (p .1)) (rw e (p .2)) in
+      (q .0, q .1))
       (λ l. (Forest.leaf 0 X 0 Forest.nil, Derives.leaf (s .0, omega (arith, l)) Derives.nil))
 
   grown-all : {xs : List ℕ} → Each (SymbolOf (G .t) (G .n)) xs → (f : Forest) × Derives G xs f
@@ -132,16 +132,27 @@ module _ {G : Grammar} (g : Prepared G) where
       let b = begun j e h q t in
       let d : Derives G (M ∷ xs) (Forest.leaf 0 (k .kind) (k .tag) (b .forest)) = rw m (Derives.leaf (rw m at a) (b .derives)) in
       record {
-        beginning = k ∷ b .beginning; rest = b .rest; is = ap (λ (u : List Token). k ∷ u) (b .is); tokens = omega (arith, b .tokens);
-        forest = Forest.leaf 0 (k .kind) (k .tag) (b .forest); derives = d; more = b .more; yields = ap (λ (u : List Token). k ∷ u) (b .yields)
+        beginning = k ∷ b .beginning;
+        rest = b .rest;
+        is = ap (λ (u : List Token). k ∷ u) (b .is);
+        tokens = omega (arith, b .tokens);
+        forest = Forest.leaf 0 (k .kind) (k .tag) (b .forest);
+        derives = d;
+        more = b .more;
+        yields = ap (λ (u : List Token). k ∷ u) (b .yields);
       }
   begun j e (expands {M = M} {p = p} {γ = γ} x r l h) q (Each.cons s t) =
       let b = begun j e h q (each-join (rule-allowed (g .formed) r .symbols) t) in
       let o = parts γ (b .derives) in
       record {
-        beginning = b .beginning; rest = b .rest; is = b .is; tokens = b .tokens;
-        forest = Forest.node 0 M p (o .front) (o .back); derives = Derives.node r (o .left) (o .right);
-        more = b .more; yields = sym (yield-join (o .front) (o .back)) ∙ ap yield (sym (o .is)) ∙ b .yields
+        beginning = b .beginning;
+        rest = b .rest;
+        is = b .is;
+        tokens = b .tokens;
+        forest = Forest.node 0 M p (o .front) (o .back);
+        derives = Derives.node r (o .left) (o .right);
+        more = b .more;
+        yields = sym (yield-join (o .front) (o .back)) ∙ ap yield (sym (o .is)) ∙ b .yields;
       }
 
   -- "With reply 9, its place equals the number of tokens in the longest beginning of the sentence that also begins some sentence of the language"
@@ -150,7 +161,10 @@ module _ {G : Grammar} (g : Prepared G) where
       let m = g .formed .head .start in
       let b = begun i e h refl (Each.cons (omega (arith, m .0), m .1) Each.nil) in
       record {
-        beginning = b .beginning; rest = b .rest; is = b .is; tokens = omega (arith, b .tokens);
+        beginning = b .beginning;
+        rest = b .rest;
+        is = b .is;
+        tokens = omega (arith, b .tokens);
         viable = record { rest = b .more; tree = record { tree = b .forest; derives = b .derives; yields = b .yields } };
-        longest = λ u v y o. omega (arith, beyond g i e h refl [] stop (o .tree .derives) u v (o .rest) y (o .tree .yields))
+        longest = λ u v y o. omega (arith, beyond g i e h refl [] stop (o .tree .derives) u v (o .rest) y (o .tree .yields));
       }

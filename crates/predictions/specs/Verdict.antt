@@ -19,7 +19,7 @@ use Rattle.predictions.specs.Paths.{Chosen}
 use Rattle.predictions.specs.Listing.{Rowed, Low, none, some}
 
 -- a predictor is a lookahead
-predictor-small : {G : Grammar} {M a p : ℕ} → G .t ≤ maxTerminals → Predicts G M a p → a < columns
+pub predictor-small : {G : Grammar} {M a p : ℕ} → G .t ≤ maxTerminals → Predicts G M a p → a < columns
 predictor-small l (by-first r f) = omega (arith, f .0 .1)
 predictor-small l (by-follow r n (inside α β t s)) = omega (arith, t .1)
 predictor-small l (by-follow r n (ending α s)) = omega arith
