@@ -19,7 +19,7 @@ part-rest-start : tie.Need-part-rest-start Inv-loop μ-loop
 part-rest-start c = search (headed-long, needs)
 
 part-rest-end : tie.Need-part-rest-end Inv-loop μ-loop
-part-rest-end c = search (headed-long, needs)
+part-rest-end c = search needs
 
 loop-holds : tie.Need-loop-holds Inv-loop μ-loop
 loop-holds c = (search needs, search needs, search needs, search reading-start)
