@@ -1,15 +1,19 @@
 -- Runs of bytes: zeros, a copy, a comparison. Each loop's turn and end, with the premises as the code has them.
 use Prim.Native.Nat.{ℕ, zero, suc, _+_, _-_, _≤_, _<_, min}
-use mathlib.Core.Bool.{true, false}
-use mathlib.Core.Path.{_≡_, refl, ap, _∙_}
+use mathlib.Core.Bool.{false}
+use mathlib.Core.Path.{_≡_, refl, sym, ap, _∙_}
+use mathlib.Core.Logic.{by-cases}
 use mathlib.Core.List.{List, _++_, append-nil}
 use native.Mathlib.Numerals.{add-one}
 use lib.ListN.{length, take, drop, getD, length-append, length-drop, set, replicate, length-replicate, replicate-append-replicate}
 use borrow.Author.Count.{below-more}
 use borrow.Author.Fill.{fill-more}
 use lib.Seq.{drop-length, take-all, take-length, take-append-seam, drop-append-add, ext-getD, paste, paste-zero, paste-suc}
+use lib.Dec.{eqb}
+use borrow.Author.Tests.{eqb-true, eqb-false}
+use native.Mathlib.Decide.{ℕ-discrete}
 use native.Mathlib.Omega.{arith}
-use Rattle.base.specs.Tells.{Tells, tells-yes, tells-no}
+use Rattle.base.specs.Tells.{Tells, tells-no}
 
 -- n zeros; shut, so that no long run is ever written out
 unfoldable pub zeros : ℕ → List ℕ
@@ -93,23 +97,35 @@ copy-end dst₀ dst src at n i m l u e = let q : i ≡ min (length src) (length 
 
 pub ruleset copying = (copy-none, copy-turn, copy-end)
 
--- the first i bytes of both are the same
-pub record Alike (a b : List ℕ) (i : ℕ) : Type 0 where
-  pub at : (k : ℕ) → k < i → getD a k 0 ≡ getD b k 0
+-- the first i bytes of both are the same exactly if acc is 0
+pub record Alike (a b : List ℕ) (i acc : ℕ) : Type 0 where
+  pub yes : acc ≡ 0 → (k : ℕ) → k < i → getD a k 0 ≡ getD b k 0
+  pub no : (acc ≡ 0 → ⊥) → a ≡ b → ⊥
 
-pub alike-none : (a b : List ℕ) → Alike a b 0
-alike-none a b = record { at = λ k l. absurd (omega arith) }
+pub alike-none : (a b : List ℕ) → Alike a b 0 0
+alike-none a b = record { yes = λ _ k l. absurd (omega arith); no = λ n _. n refl }
 
-pub alike-more : (a b : List ℕ) (i : ℕ) → Alike a b i → getD a i 0 ≡ getD b i 0 → Alike a b (i + 1)
-alike-more a b i h e = record { at = below-more (λ k. getD a k 0 ≡ getD b k 0) i (h .at) e }
+pub alike-more : (a b : List ℕ) (i acc acc' : ℕ) → (acc' ≡ 0 → (acc ≡ 0) × (getD a i 0 ≡ getD b i 0)) × (acc ≡ 0 → getD a i 0 ≡ getD b i 0 → acc' ≡ 0)
+    → Alike a b i acc → Alike a b (i + 1) acc'
+alike-more a b i acc acc' w h =
+    record {
+      yes = λ e. below-more (λ k. getD a k 0 ≡ getD b k 0) i (h .yes (w .0 e .0)) (w .0 e .1);
+      no = λ n e. by-cases (ℕ-discrete acc 0) (λ z. n (w .1 z (ap (λ (l : List ℕ). getD l i 0) e))) (λ z. h .no z e);
+    }
 
-pub same-end : (a b : List ℕ) (i : ℕ) → length a ≡ length b → length a ≤ i → Alike a b i → Tells (a ≡ b) true
-same-end a b i n l h = tells-yes (ext-getD 0 a b n (λ k m. h .at k (omega arith)))
+pub alike-told : (a b : List ℕ) (i acc : ℕ) → length a ≡ length b → length a ≤ i → Alike a b i acc → Tells (a ≡ b) (eqb acc 0)
+alike-told a b i acc n l h =
+    record { yes = λ e. ext-getD 0 a b n (λ k m. h .yes (eqb-true acc 0 e) k (omega arith)); no = λ e. h .no (eqb-false acc 0 e) }
 
 pub same-longer : (a b : List ℕ) → (length a ≡ length b → ⊥) → Tells (a ≡ b) false
 same-longer a b n = tells-no (λ e. n (ap length e))
 
-pub same-differ : (a b : List ℕ) (i : ℕ) → Alike a b i → (getD a i 0 ≡ getD b i 0 → ⊥) → Tells (a ≡ b) false
-same-differ a b i h n = tells-no (λ e. n (ap (λ (l : List ℕ). getD l i 0) e))
+-- where every byte is compared with 0
+pub zeros-more : (a : List ℕ) (m i acc acc' : ℕ) → (acc' ≡ 0 → (acc ≡ 0) × (getD a i 0 ≡ 0)) × (acc ≡ 0 → getD a i 0 ≡ 0 → acc' ≡ 0)
+    → Alike a (zeros m) i acc → Alike a (zeros m) (i + 1) acc'
+zeros-more a m i acc acc' w h = alike-more a (zeros m) i acc acc' (rw (byte-zeros m i) w) h
 
-pub ruleset comparing = (alike-none, alike-more, same-end, same-longer, same-differ)
+pub zeros-told : (a : List ℕ) (i acc : ℕ) → length a ≤ i → Alike a (zeros (length a)) i acc → Tells (a ≡ zeros (length a)) (eqb acc 0)
+zeros-told a i acc l h = alike-told a (zeros (length a)) i acc (sym (length-zeros (length a))) l h
+
+pub ruleset comparing = (alike-none, alike-told, same-longer, zeros-told)

@@ -90,19 +90,41 @@ pub fn copy(dst: &mut [u8], at: usize, src: &[u8])
     }
 }
 
-// Whether the bytes are the same.
+// `acc` where x and y are equal, else 1.
+fn odd_out(acc: u8, x: u8, y: u8) -> u8
+    ensures { λ r. ⌜ (r ≡ 0 → (acc ≡ 0) × (x ≡ y)) × (acc ≡ 0 → x ≡ y → r ≡ 0) ⌝ }
+{
+    if x == y {
+        return acc;
+    }
+    1
+}
+
+// Whether the bytes are the same. No way out of the loop, so that it runs on many bytes at once.
 pub fn same(a: &[u8], b: &[u8]) -> bool
     ensures { λ r. ⌜ Tells (now (a .entry) ≡ now (b .entry)) r ⌝ }
 {
     if a.len() != b.len() {
         return false;
     }
+    let mut acc: u8 = 0;
     let mut i = 0;
     while i < a.len() {
-        if a[i] != b[i] {
-            return false;
-        }
+        acc = odd_out(acc, a[i], b[i]);
         i += 1;
     }
-    true
+    acc == 0
+}
+
+// Whether the bytes are all 0.
+pub fn all_zero(a: &[u8]) -> bool
+    ensures { λ r. ⌜ Tells (now (a .entry) ≡ zeros (length (now (a .entry)))) r ⌝ }
+{
+    let mut acc: u8 = 0;
+    let mut i = 0;
+    while i < a.len() {
+        acc = odd_out(acc, a[i], 0);
+        i += 1;
+    }
+    acc == 0
 }

@@ -12,6 +12,10 @@ maxTerminals = 31
 abbrev pub maxNonterminals : ℕ
 maxNonterminals = 32
 
+-- "32 columns of lookahead 0..31"
+abbrev pub columns : ℕ
+columns = 32
+
 -- "up to 128 productions"
 abbrev pub maxProductions : ℕ
 maxProductions = 128

@@ -17,6 +17,9 @@ pub const MAX_TERMINALS: usize = 31;
 
 pub const MAX_NONTERMINALS: usize = 32;
 
+// Lookaheads: the end mark and the terminals.
+pub const COLUMNS: usize = 32;
+
 pub const MAX_PRODUCTIONS: usize = 128;
 
 pub const MAX_BODY: usize = 8;

@@ -5,6 +5,7 @@ ghost use mathlib.Core.Path.{_≡_};
 ghost use Prim.Native.Nat.{_+_, _<_, _≤_};
 ghost use lib.ListN.{length};
 ghost use Rattle.base.specs.Blocks.{copied, zeros};
+ghost use Rattle.grammar.specs.Limits.{maxProductions};
 ghost use Rattle.grammar.specs.Rows.{grammarIn};
 ghost use Rattle.grammar.specs.Grammar.{WellFormed};
 ghost use Rattle.kindlesap.specs.Reply.{leBytes, numberOf, placeOf, countsOf, replyBytes};
@@ -108,7 +109,7 @@ fn write_reply(reply: Reply, out: &mut [u8])
 
 // A grammar that was read: replies 2, 3 and 4, or its tables.
 fn prepare_read(head: Head, rows: &[u8; grammar::ROWS_SIZE], tables: &mut [u8]) -> Reply
-    requires { ⌜ WellFormed (grammarIn (now rows) (head .t) (head .n) (head .start) (head .count)) × (head .count ≤ 128) ⌝ }
+    requires { ⌜ WellFormed (grammarIn (now rows) (head .t) (head .n) (head .start) (head .count)) × (head .count ≤ maxProductions) ⌝ }
     ensures { λ r. ⌜ Judged (grammarIn (now (rows .entry)) (head .t) (head .n) (head .start) (head .count)) (now (tables .entry)) r (now (tables .exit)) ⌝ }
 {
     let t = head.t;

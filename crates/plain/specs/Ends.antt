@@ -7,14 +7,14 @@ use lib.ListN.{length}
 use native.Mathlib.Decide.{ℕ-discrete, decLt}
 use native.Mathlib.Omega.{arith}
 use Rattle.base.specs.Bits.{has?, gather}
-use Rattle.grammar.specs.Limits.{endMark, maxTerminals}
+use Rattle.grammar.specs.Limits.{endMark, columns}
 use Rattle.grammar.specs.Each.{Each, each-tail}
 use Rattle.grammar.specs.Grammar.{Grammar, Rule, Terminal}
 use Rattle.grammar.specs.Prediction.{Predicts, by-first, by-follow, Prepared}
 use Rattle.grammar.specs.Rows.{leftAt, grammarIn, rowsOf, rows-grammar}
 use Rattle.grammar.specs.Forest.{Token, kinds}
 use Rattle.sets.specs.Decidable.{analysed}
-use Rattle.predictions.specs.Hits.{columns, predictors, Hit}
+use Rattle.predictions.specs.Hits.{predictors, Hit}
 use Rattle.predictions.specs.Verdict.{predictor-small, predicts-hit, hit-predicts}
 use Rattle.plain.specs.Plain.{ahead, Expects, prediction, itself, end, Expected, Verdict, accepted, syntax, noRoom, Runs, accepts, matches, expands, crowded, stuck, Parses}
 
@@ -71,14 +71,14 @@ module _ {G : Grammar} (g : Prepared G) where
       (λ t. by-cases (ℕ-discrete M a) (λ e. yes (subst (λ (b : ℕ). Expects G (M ∷ xs) b) e (itself t))) (λ m. no (not-expected n (λ _ e. m e))))
       (λ m. no (not-expected n (λ t _. m t))))
 
-  lookahead-small : {xs : List ℕ} {a : ℕ} → Expects G xs a → a < suc maxTerminals
+  lookahead-small : {xs : List ℕ} {a : ℕ} → Expects G xs a → a < columns
   lookahead-small (prediction x) = predictor-small (g .formed .head .terminals .1) x
   lookahead-small (itself t) = omega (arith, t .1, g .formed .head .terminals .1)
   lookahead-small end = omega arith
 
   pub expected-some : (xs : List ℕ) → (e : ℕ) × Expected G xs e
   expected-some xs =
-      let h = gather (λ a. Expects G xs a) (expects? xs) (suc maxTerminals) in
+      let h = gather (λ a. Expects G xs a) (expects? xs) columns in
       (h .0, record { small = h .1 .small; all = λ a x. h .1 .all a (lookahead-small x) x; only = h .1 .only })
 
   -- ---- the parse: an expansion brings the count nearer to S, or takes a symbol away

@@ -5,7 +5,7 @@ use mathlib.Core.List.{List, _∷_, _++_}
 use lib.ListN.{length}
 use native.Mathlib.Omega.{arith}
 use Rattle.base.specs.Bits.{bits-one}
-use Rattle.grammar.specs.Limits.{maxTerminals}
+use Rattle.grammar.specs.Limits.{columns}
 use Rattle.grammar.specs.Grammar.{Grammar, Rule, Terminal}
 use Rattle.grammar.specs.Rules.{rule-one, rule-left}
 use Rattle.grammar.specs.Prediction.{Predicts, Prepared}
@@ -15,7 +15,7 @@ use Rattle.plain.specs.Plain.{Expects, prediction, itself, end, Expected
 
 pub expected-one : {G : Grammar} {xs : List ℕ} {e d : ℕ} → Expected G xs e → Expected G xs d → e ≡ d
 expected-one {e = e} {d = d} h k =
-    bits-one (suc maxTerminals) e d (h .small) (k .small) (λ i _ x. k .all i (h .only i x)) (λ i _ x. h .all i (k .only i x))
+    bits-one columns e d (h .small) (k .small) (λ i _ x. k .all i (h .only i x)) (λ i _ x. h .all i (k .only i x))
 
 module _ {G : Grammar} (g : Prepared G) where
   pub no-rule : {A : Type 0} {M p : ℕ} {γ : List ℕ} → Terminal G M → Rule G p M γ → A

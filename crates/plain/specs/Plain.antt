@@ -4,7 +4,7 @@ use mathlib.Core.Path.{_≡_}
 use mathlib.Core.List.{List, [], _∷_, _++_}
 use lib.ListN.{length}
 use Rattle.base.specs.Bits.{Has}
-use Rattle.grammar.specs.Limits.{endMark, maxTerminals}
+use Rattle.grammar.specs.Limits.{endMark, columns}
 use Rattle.grammar.specs.Grammar.{Grammar, Rule, Terminal}
 use Rattle.grammar.specs.Prediction.{Predicts}
 use Rattle.grammar.specs.Forest.{Token}
@@ -27,7 +27,7 @@ pub data Expects (G : Grammar) : List ℕ → ℕ → Type 0 where
 
 -- the expected set as a number, one bit for each lookahead
 pub record Expected (G : Grammar) (xs : List ℕ) (e : ℕ) : Type 0 where
-  pub small : e < 2 ^ suc maxTerminals
+  pub small : e < 2 ^ columns
   pub all : (a : ℕ) → Expects G xs a → Has e a
   pub only : (a : ℕ) → Has e a → Expects G xs a
 

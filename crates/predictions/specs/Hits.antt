@@ -9,6 +9,7 @@ use lib.Dec.{eqb}
 use borrow.Author.Tests.{eq-eqb, eqb-true, eqb-false}
 use native.Mathlib.Omega.{arith}
 use Rattle.base.specs.Bits.{Has, shifted-has, has-shifted}
+use Rattle.grammar.specs.Limits.{columns}
 use Rattle.grammar.specs.Grammar.{Grammar}
 use Rattle.grammar.specs.Rows.{leftAt, lengthAt, symbolAt, symbolsFrom, grammarIn, left-small, symbols-small}
 use Rattle.grammar.specs.RowRules.{bodyAt}
@@ -38,10 +39,6 @@ has-hasb m a h = eq-eqb (m / 2 ^ a % 2) 1 (has-shifted m a h)
 pub hasb-not : (m a : ℕ) → hasb m a ≡ false → Has m a → ⊥
 unfolding hasb
 hasb-not m a e h = eqb-false (m / 2 ^ a % 2) 1 e (has-shifted m a h)
-
--- lookaheads are below 32
-abbrev pub columns : ℕ
-columns = 32
 
 -- a predicts the production in row p, whose left side is M
 pub record Hit (rows s : List ℕ) (p M a : ℕ) : Type 0 where

@@ -12,12 +12,13 @@ use native.Mathlib.Omega.{arith}
 use Rattle.base.specs.Choose.{choose, choose-of}
 use Rattle.base.specs.Bits.{Has, has?}
 use Rattle.base.specs.Blocks.{zeros, length-zeros, byte-zeros}
+use Rattle.grammar.specs.Limits.{maxNonterminals, columns}
 use Rattle.grammar.specs.Rows.{leftAt}
-use Rattle.predictions.specs.Hits.{columns, hasb, hasb-has, has-hasb, predictors, Hit, Clash}
+use Rattle.predictions.specs.Hits.{hasb, hasb-has, has-hasb, predictors, Hit, Clash}
 
--- as many rows as columns
+-- a row for each nonterminal that a grammar may have
 abbrev pub cellsSize : ℕ
-cellsSize = columns * columns
+cellsSize = maxNonterminals * columns
 
 -- ---- one production, along its row
 
@@ -116,11 +117,11 @@ pub data Low (rows s : List ℕ) (k : ℕ) : ℕ → Type 0 where
 
 -- left sides are nonterminals that have a row
 abbrev pub Rowed : List ℕ → ℕ → ℕ → Type 0
-Rowed rows t count = (p : ℕ) → p < count → (t < leftAt rows p) × (leftAt rows p ≤ t + columns)
+Rowed rows t count = (p : ℕ) → p < count → (t < leftAt rows p) × (leftAt rows p ≤ t + maxNonterminals)
 
 pub record Listed (rows s : List ℕ) (t k : ℕ) (cells : List ℕ) (low : ℕ) : Type 0 where
   pub long : length cells ≡ cellsSize
-  pub cell : (R a : ℕ) → R < columns → a < columns → Cell rows s k (t + 1 + R) a (getD cells (R * columns + a) 0)
+  pub cell : (R a : ℕ) → R < maxNonterminals → a < columns → Cell rows s k (t + 1 + R) a (getD cells (R * columns + a) 0)
   pub conflict : Low rows s k low
 
 -- the lower of two, where 0 stands for none
@@ -137,7 +138,7 @@ module _ (rows s : List ℕ) (t : ℕ) where
       }
 
   -- one production more
-  module _ (k m w : ℕ) (cells cells' : List ℕ) (c low : ℕ) (em : m ≡ leftAt rows k) (ew : w ≡ predictors rows s k) (lm : t < m) (um : m ≤ t + columns)
+  module _ (k m w : ℕ) (cells cells' : List ℕ) (c low : ℕ) (em : m ≡ leftAt rows k) (ew : w ≡ predictors rows s k) (lm : t < m) (um : m ≤ t + maxNonterminals)
       (h : Listed rows s t k cells low) (u : Marked w (k + 1) ((m - t - 1) * columns) columns cells cells' c) where
     new : (a : ℕ) → a < columns → Has w a → Hit rows s k m a
     new a l q = record { left = sym em; small = l; has = rw ew at q }
@@ -155,14 +156,14 @@ module _ (rows s : List ℕ) (t : ℕ) where
         let o : Cell rows s k m a (getD cells ((m - t - 1) * columns + a) 0) = rw z at (h .cell (m - t - 1) a (omega arith) l) in
         rw (u .leaves a l q) (old-cell (λ x. q (rw (← ew) at (x .has))) o))
 
-    other-cell : (R a : ℕ) → R < columns → a < columns → (t + 1 + R ≡ m → ⊥) → Cell rows s (k + 1) (t + 1 + R) a (getD cells' (R * columns + a) 0)
+    other-cell : (R a : ℕ) → R < maxNonterminals → a < columns → (t + 1 + R ≡ m → ⊥) → Cell rows s (k + 1) (t + 1 + R) a (getD cells' (R * columns + a) 0)
     other-cell R a l i n =
         let same : getD cells' (R * columns + a) 0 ≡ getD cells (R * columns + a) 0 =
         by-cases (decLt R (m - t - 1)) (λ x. u .before (R * columns + a) (omega arith)) (λ x. u .behind (R * columns + a) (omega arith))
         in
         rw same (old-cell (λ x. n (sym (x .left) ∙ sym em)) (h .cell R a l i))
 
-    cells-more : (R a : ℕ) → R < columns → a < columns → Cell rows s (k + 1) (t + 1 + R) a (getD cells' (R * columns + a) 0)
+    cells-more : (R a : ℕ) → R < maxNonterminals → a < columns → Cell rows s (k + 1) (t + 1 + R) a (getD cells' (R * columns + a) 0)
     cells-more R a l i =
         by-cases (ℕ-discrete (t + 1 + R) m)
         (λ e. let z : m - t - 1 ≡ R = omega arith in rw e (rw z at (own-cell a i)))

@@ -5,7 +5,7 @@ use mathlib.Core.Logic.{by-cases}
 use mathlib.Core.List.{List}
 use native.Mathlib.Decide.{decLt}
 use native.Mathlib.Omega.{arith}
-use Rattle.grammar.specs.Limits.{maxTerminals}
+use Rattle.grammar.specs.Limits.{maxTerminals, columns}
 use Rattle.grammar.specs.Grammar.{Grammar, WellFormed}
 use Rattle.grammar.specs.Derivation.{Useless, Lowest, inside, ending}
 use Rattle.grammar.specs.Prediction.{Predicts, by-first, by-follow, Conflict, LL1}
@@ -13,7 +13,7 @@ use Rattle.grammar.specs.Rows.{leftAt, grammarIn}
 use Rattle.grammar.specs.RowRules.{bodyAt, rule-at, rule-row}
 use Rattle.grammar.specs.Rules.{rule-left}
 use Rattle.sets.specs.Known.{Known}
-use Rattle.predictions.specs.Hits.{columns, Hit, Clash, hit-exactly}
+use Rattle.predictions.specs.Hits.{Hit, Clash, hit-exactly}
 use Rattle.predictions.specs.Stems.{chosen-predicts, predicts-chosen}
 use Rattle.predictions.specs.Paths.{Chosen}
 use Rattle.predictions.specs.Listing.{Rowed, Low, none, some}

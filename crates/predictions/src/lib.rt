@@ -3,17 +3,15 @@ ghost use mathlib.Core.Path.{_≡_};
 ghost use Prim.Native.Nat.{_+_, _-_, _*_, _<_, _≤_};
 ghost use lib.ListN.{length};
 ghost use Rattle.base.specs.Blocks.{zeros};
-ghost use Rattle.grammar.specs.Limits.{maxTerminals, maxNonterminals, maxProductions};
+ghost use Rattle.grammar.specs.Limits.{maxTerminals, maxNonterminals, maxProductions, columns};
 ghost use Rattle.grammar.specs.Rows.{symbolSpace, leftAt};
 ghost use Rattle.grammar.specs.RowRules.{bodyAt};
 ghost use Rattle.sets.specs.Words.{setsSize, suffix};
-ghost use Rattle.predictions.specs.Hits.{columns, hasb, predictors as predictorsm};
+ghost use Rattle.predictions.specs.Hits.{hasb, predictors as predictorsm};
 ghost use Rattle.predictions.specs.Idle.{Idle};
 ghost use Rattle.predictions.specs.Listing.{cellsSize, listed as listedm, crowded as crowdedm, lower as lowerm, Marked, Rowed, Listed};
 
-pub const COLUMNS: usize = 32;
-
-pub const CELLS_SIZE: usize = COLUMNS * COLUMNS;
+pub const CELLS_SIZE: usize = grammar::MAX_NONTERMINALS * grammar::COLUMNS;
 
 // Whether a is in the set m.
 pub fn has(m: u32, a: usize) -> bool
@@ -93,7 +91,7 @@ fn list_row(w: u32, new: u8, at: usize, cells: &mut [u8]) -> usize
 {
     let mut c: usize = 0;
     let mut a: usize = 0;
-    while a < COLUMNS {
+    while a < grammar::COLUMNS {
         let old = cells[at + a];
         let v = listed(w, a, old, new);
         let d = crowded(w, a, old);
@@ -129,7 +127,7 @@ pub fn predict(rows: &[u8], t: usize, count: usize, sets: &[u32], cells: &mut [u
     while p < count {
         let m = grammar::left_at(rows, p);
         let w = predictors(rows, p, m, sets);
-        let c = list_row(w, (p + 1) as u8, (m - t - 1) * COLUMNS, cells);
+        let c = list_row(w, (p + 1) as u8, (m - t - 1) * grammar::COLUMNS, cells);
         low = lower(c, low, m);
         p += 1;
     }

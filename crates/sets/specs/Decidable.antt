@@ -17,7 +17,7 @@ use Rattle.grammar.specs.Limits.{maxTerminals}
 use Rattle.grammar.specs.Grammar.{Grammar, Nonterminal, WellFormed}
 use Rattle.grammar.specs.Derivation.{Nullable, First, Productive, Reachable, Useless}
 use Rattle.grammar.specs.Rows.{symbolSpace, rowsOf, grammarIn, rows-grammar}
-use Rattle.sets.specs.Words.{follows, marks, setsSize, leads, both, raised, high, stepped, turn, passed, closing, produced, producedAt, swept, tokens, begun}
+use Rattle.sets.specs.Words.{wordBits, follows, marks, setsSize, leads, both, raised, high, stepped, turn, passed, closing, produced, producedAt, swept, tokens, begun}
 use Rattle.sets.specs.Growth.{total, total-bound, Within, within-refl, within-trans}
 use Rattle.sets.specs.Facts.{Sound}
 use Rattle.sets.specs.Still.{within-swept}
@@ -27,32 +27,32 @@ use Rattle.sets.specs.Rounds.{Settled, sound-swept, length-begun, known-
 -- ---- words of 32 bits stay so
 
 abbrev Bounded : List ℕ → Type 0
-Bounded s = (i : ℕ) → getD s i 0 < 2 ^ 32
+Bounded s = (i : ℕ) → getD s i 0 < 2 ^ wordBits
 
-bounded-raised : (s : List ℕ) (i m : ℕ) → m < 2 ^ 32 → Bounded s → Bounded (raised s i m)
+bounded-raised : (s : List ℕ) (i m : ℕ) → m < 2 ^ wordBits → Bounded s → Bounded (raised s i m)
 unfolding raised
 bounded-raised s i m l h j =
     by-cases (decLt i (length s))
     (λ k. by-cases (ℕ-discrete j i)
-    (λ q. rw (q, getD-set-same s i (bitOr (getD s i 0) m) 0 k) (or-lt 32 (getD s i 0) m (h i) l))
+    (λ q. rw (q, getD-set-same s i (bitOr (getD s i 0) m) 0 k) (or-lt wordBits (getD s i 0) m (h i) l))
     (λ q. rw (getD-set-other s i j (bitOr (getD s i 0) m) 0 q) (h j)))
     (λ k. rw (set-out s i (bitOr (getD s i 0) m) (omega arith)) (h j))
 
-bounded-leads : (w r : ℕ) → w < 2 ^ 32 → r < 2 ^ 32 → leads w r < 2 ^ 32
+bounded-leads : (w r : ℕ) → w < 2 ^ wordBits → r < 2 ^ wordBits → leads w r < 2 ^ wordBits
 unfolding leads
-bounded-leads w r l k = choose-of (λ m. m < 2 ^ 32) _ _ _ (λ _. or-lt 32 (w - 1) r (omega arith) k) (λ _. l)
+bounded-leads w r l k = choose-of (λ m. m < 2 ^ wordBits) _ _ _ (λ _. or-lt wordBits (w - 1) r (omega arith) k) (λ _. l)
 
-bounded-both : (w r : ℕ) → r < 2 ^ 32 → both w r < 2 ^ 32
+bounded-both : (w r : ℕ) → r < 2 ^ wordBits → both w r < 2 ^ wordBits
 unfolding both
-bounded-both w r k = choose-of (λ m. m < 2 ^ 32) _ _ _ (λ _. k) (λ _. omega arith)
+bounded-both w r k = choose-of (λ m. m < 2 ^ wordBits) _ _ _ (λ _. k) (λ _. omega arith)
 
-bounded-stepped : (m x tail : ℕ) (s : List ℕ) → tail < 2 ^ 32 → Bounded s → Bounded (stepped m x tail s)
+bounded-stepped : (m x tail : ℕ) (s : List ℕ) → tail < 2 ^ wordBits → Bounded s → Bounded (stepped m x tail s)
 unfolding stepped
 bounded-stepped m x tail s l h =
     bounded-raised _ (marks + x) (high (getD s (marks + m) 0)) (omega (arith, h (marks + m)))
     (bounded-raised s (follows + x) (leads tail (getD s (follows + m) 0)) (bounded-leads tail (getD s (follows + m) 0) l (h (follows + m))) h)
 
-bounded-passed : (m : ℕ) (xs s : List ℕ) → Bounded s → Bounded (passed m xs s .sets) × (passed m xs s .tail < 2 ^ 32) × (passed m xs s .made < 2 ^ 32)
+bounded-passed : (m : ℕ) (xs s : List ℕ) → Bounded s → Bounded (passed m xs s .sets) × (passed m xs s .tail < 2 ^ wordBits) × (passed m xs s .made < 2 ^ wordBits)
 unfolding passed turn
 bounded-passed m [] s h = (h, omega arith, omega arith)
 bounded-passed m (x ∷ xs) s h =
@@ -73,8 +73,8 @@ unfolding swept producedAt
 bounded-swept rows back count zero s h = h
 bounded-swept rows back count (suc k) s h = bounded-produced _ _ _ (bounded-swept rows back count k s h)
 
-pow-small : (k : ℕ) → k ≤ maxTerminals → 2 ^ k < 2 ^ 32
-pow-small k l = pow-lt {i = k} {j = 32} (omega arith)
+pow-small : (k : ℕ) → k ≤ maxTerminals → 2 ^ k < 2 ^ wordBits
+pow-small k l = pow-lt {i = k} {j = wordBits} (omega arith)
 
 bounded-tokens : (k : ℕ) (s : List ℕ) → k ≤ maxTerminals → Bounded s → Bounded (tokens k s)
 unfolding tokens
@@ -91,13 +91,13 @@ bounded-begun t start l =
 
 -- ---- so the sweeps come to rest
 
-bounded-total : (s : List ℕ) → length s ≡ setsSize → Bounded s → total s ≤ setsSize * 2 ^ 32
-bounded-total s l b = let q : total s ≤ length s * 2 ^ 32 = total-bound s (2 ^ 32) (λ i m. omega (arith, b i)) in rw l at q
+bounded-total : (s : List ℕ) → length s ≡ setsSize → Bounded s → total s ≤ setsSize * 2 ^ wordBits
+bounded-total s l b = let q : total s ≤ length s * 2 ^ wordBits = total-bound s (2 ^ wordBits) (λ i m. omega (arith, b i)) in rw l at q
 
 module _ (rows : List ℕ) (count : ℕ) (s₀ : List ℕ) where
   settle : (fuel : ℕ) (s : List ℕ) → length s ≡ setsSize → Bounded s → Within s₀ s
       → ((t n start : ℕ) → Sound (grammarIn rows t n start count) s₀ → Sound (grammarIn rows t n start count) s)
-      → setsSize * 2 ^ 32 - total s ≤ fuel → (s' : List ℕ) × Settled rows count s₀ s' 0
+      → setsSize * 2 ^ wordBits - total s ≤ fuel → (s' : List ℕ) × Settled rows count s₀ s' 0
   settle zero s l b w h f =
       let v = within-swept rows false count count s in
       let k = bounded-total (swept rows false count count s) (v .long ∙ l) (bounded-swept rows false count count s b) in
@@ -117,7 +117,7 @@ analysed G f =
     let few = f .head .terminals .1 in
     let low : G .start < symbolSpace = omega (arith, f .head .start .1, few, f .head .nonterminals .1) in
     let b : List ℕ = begun (G .t) (G .start) in
-    let q = settle (rowsOf (G .productions)) (length (G .productions)) b (setsSize * 2 ^ 32) b (length-begun (G .t) (G .start)) (bounded-begun (G .t) (G .start) few) (within-refl b) (λ t n start h. h) (omega arith) in
+    let q = settle (rowsOf (G .productions)) (length (G .productions)) b (setsSize * 2 ^ wordBits) b (length-begun (G .t) (G .start)) (bounded-begun (G .t) (G .start) few) (within-refl b) (λ t n start h. h) (omega arith) in
     let k = known-settled (rowsOf (G .productions)) (G .t) (G .n) (G .start) (length (G .productions)) few low (q .1) in
     (q .0, rw (rows-grammar G f) at k)
 

@@ -18,7 +18,7 @@ use Rattle.grammar.specs.Derivation.{stop}
 use Rattle.grammar.specs.Rows.{symbolSpace, leftAt, grammarIn, left-small, symbols-small, lengthAt}
 use Rattle.grammar.specs.RowRules.{bodyAt, rule-at, rule-row}
 use Rattle.sets.specs.Closures.{b-here, a-start}
-use Rattle.sets.specs.Words.{follows, marks, setsSize, raised, producedAt, turned, swept, tokens, begun}
+use Rattle.sets.specs.Words.{wordBits, follows, marks, setsSize, raised, producedAt, turned, swept, tokens, begun}
 use Rattle.sets.specs.Growth.{total, total-bound, Within, within-refl, within-trans, within-raised}
 use Rattle.sets.specs.Facts.{Sound, is-first, is-follow, is-made, is-reached, begins, sound-raised, sound-produced}
 use Rattle.sets.specs.Still.{Closed, within-swept, closed-swept, turned-low}
@@ -65,11 +65,11 @@ module _ (rows : List ℕ) (count : ℕ) where
         closed = λ z. let w = k .still (omega arith) in ap (swept rows false count count) w ∙ sym f;
       }
 
-pub settled-less : (s s' s'' : List ℕ) (c a b : ℕ) → length s'' ≡ setsSize → ((i : ℕ) → i < length s'' → getD s'' i 0 < 2 ^ 32) → 0 < c → Grew s s' a → Grew s' s'' b
-    → setsSize * 2 ^ 32 - total s'' + (a + b) < setsSize * 2 ^ 32 - total s + c
+pub settled-less : (s s' s'' : List ℕ) (c a b : ℕ) → length s'' ≡ setsSize → ((i : ℕ) → i < length s'' → getD s'' i 0 < 2 ^ wordBits) → 0 < c → Grew s s' a → Grew s' s'' b
+    → setsSize * 2 ^ wordBits - total s'' + (a + b) < setsSize * 2 ^ wordBits - total s + c
 settled-less s s' s'' c a b n h l g k =
-    let q : total s'' ≤ length s'' * 2 ^ 32 = total-bound s'' (2 ^ 32) (λ i m. omega (arith, h i m)) in
-    let r : total s'' ≤ setsSize * 2 ^ 32 = rw n at q in
+    let q : total s'' ≤ length s'' * 2 ^ wordBits = total-bound s'' (2 ^ wordBits) (λ i m. omega (arith, h i m)) in
+    let r : total s'' ≤ setsSize * 2 ^ wordBits = rw n at q in
     omega (arith, g .more, k .more)
 
 pub settled-done : (rows : List ℕ) (count : ℕ) (s₀ s : List ℕ) (c : ℕ) → c ≤ 0 → Settled rows count s₀ s c → Settled rows count s₀ s 0

@@ -13,7 +13,7 @@ use Rattle.base.specs.Bits.{or-grows}
 use Rattle.base.specs.Blocks.{zeros}
 use Rattle.grammar.specs.Rows.{leftAt, lengthAt, symbolAt, symbolsFrom}
 use Rattle.sets.specs.Growth.{total, total-set}
-use Rattle.sets.specs.Words.{follows, marks, leads, both, raised, stepped, Pass, turn, passed, closing, produced, producedAt, turned, swept, setsSize, tokens, begun}
+use Rattle.sets.specs.Words.{wordBits, follows, marks, leads, both, raised, stepped, Pass, turn, passed, closing, produced, producedAt, turned, swept, setsSize, tokens, begun}
 
 -- at least n words grew; 0 says that none did
 pub record Grew (s s' : List ℕ) (n : ℕ) : Type 0 where
@@ -138,12 +138,12 @@ module _ (s₀ : List ℕ) where
   unfolding tokens
   tokens-none = refl
 
-  pub tokens-more : (s s' s'' : List ℕ) (a : ℕ) → a + 1 < 32 → s ≡ tokens a s₀ → s' ≡ raised s (a + 1) (1 * 2 ^ (a + 1) % 2 ^ 32) → s'' ≡ raised s' (marks + (a + 1)) 1
+  pub tokens-more : (s s' s'' : List ℕ) (a : ℕ) → a + 1 < wordBits → s ≡ tokens a s₀ → s' ≡ raised s (a + 1) (1 * 2 ^ (a + 1) % 2 ^ wordBits) → s'' ≡ raised s' (marks + (a + 1)) 1
       → s'' ≡ tokens (a + 1) s₀
   unfolding tokens
   tokens-more s s' s'' a l e u v =
       let z : a + 1 ≡ suc a = omega arith in
-      let w : 1 * 2 ^ (a + 1) % 2 ^ 32 ≡ 2 ^ (a + 1) = mod-eq-of-lt (omega (arith, pow-lt {i = a + 1} {j = 32} l)) ∙ omega arith in
+      let w : 1 * 2 ^ (a + 1) % 2 ^ wordBits ≡ 2 ^ (a + 1) = mod-eq-of-lt (omega (arith, pow-lt {i = a + 1} {j = wordBits} l)) ∙ omega arith in
       v ∙ ap (λ (k : List ℕ). raised k (marks + (a + 1)) 1) (u ∙ ap (raised s (a + 1)) w ∙ ap (λ (k : List ℕ). raised k (a + 1) (2 ^ (a + 1))) e)
       ∙ ap (λ (i : ℕ). raised (raised (tokens a s₀) i (2 ^ i)) (marks + i) 1) z ∙ sym (ap (λ (i : ℕ). tokens i s₀) z)
 

@@ -1,5 +1,5 @@
 -- Model: the sets of a grammar as words of bits, three for each symbol, and what one pass over a production does to them.
-use Prim.Native.Nat.{ℕ, zero, suc, _+_, _-_, _%_, _^_}
+use Prim.Native.Nat.{ℕ, zero, suc, _+_, _-_, _*_, _%_, _^_}
 use mathlib.Core.Bool.{Bool}
 use mathlib.Core.List.{List, [], _∷_}
 use lib.ListN.{getD, set}
@@ -7,18 +7,23 @@ use lib.Dec.{eqb}
 use lib.Bits.{bitOr}
 use Rattle.base.specs.Choose.{choose}
 use Rattle.base.specs.Blocks.{zeros}
-use Rattle.grammar.specs.Rows.{leftAt, lengthAt, symbolsFrom}
+use Rattle.grammar.specs.Rows.{symbolSpace, leftAt, lengthAt, symbolsFrom}
 
 -- word X: bit 0 if X may derive nothing, bit a if a is in FIRST(X).
 -- Word follows + X: bit a if the lookahead a is in FOLLOW(X), provided that every left side is reachable (`known-follow`). Word marks + X: bit 0 if X is productive, bit 1 if X is reachable
 abbrev pub follows : ℕ
-follows = 64
+follows = symbolSpace
 
 abbrev pub marks : ℕ
-marks = 128
+marks = 2 * symbolSpace
 
+-- three words for each symbol
 abbrev pub setsSize : ℕ
-setsSize = 192
+setsSize = 3 * symbolSpace
+
+-- how many bits a word has
+abbrev pub wordBits : ℕ
+wordBits = 32
 
 -- a word in front of another: where the first may vanish, what it has besides that, and the other; else the first
 unfoldable pub leads : ℕ → ℕ → ℕ

@@ -12,11 +12,11 @@ ghost use Rattle.sets.specs.Sweeps.{Grew, At};
 ghost use Rattle.sets.specs.Rounds.{Settled};
 ghost use Rattle.sets.specs.Known.{Known};
 
-pub const SETS_SIZE: usize = 192;
+pub const SETS_SIZE: usize = 3 * grammar::SYMBOL_SPACE;
 
-pub const FOLLOWS: usize = 64;
+pub const FOLLOWS: usize = grammar::SYMBOL_SPACE;
 
-pub const MARKS: usize = 128;
+pub const MARKS: usize = 2 * grammar::SYMBOL_SPACE;
 
 // A word in front of another.
 pub fn leads(word: u32, rest: u32) -> u32

@@ -5,12 +5,12 @@ use lib.ListN.{getD}
 use lib.Dec.{eqb, leb}
 use lib.Bits.{bitOr}
 use Rattle.base.specs.Choose.{choose}
+use Rattle.grammar.specs.Limits.{columns}
 use Rattle.grammar.specs.Prediction.{noBreak}
 use Rattle.grammar.specs.Rows.{symbolSpace}
 use Rattle.grammar.specs.RowRules.{bodyAt}
 use Rattle.sets.specs.Words.{follows}
 use Rattle.predictions.specs.Hits.{hasb}
-use Rattle.tables.specs.Tables.{columns}
 
 -- the first of the symbols that a begins, 0 where none does
 unfoldable pub lead : List ℕ → ℕ → List ℕ → ℕ

@@ -5,5 +5,7 @@ pub mod One
 pub mod Cells
 pub mod Short
 pub mod Points
+pub mod Grid
 pub mod Writing
+pub mod Checking
 pub mod Outcome

@@ -7,10 +7,11 @@ use lib.ListN.{getD}
 use lib.Seq.{ext-getD}
 use native.Mathlib.Decide.{decLt}
 use native.Mathlib.Omega.{arith}
+use Rattle.grammar.specs.Limits.{columns}
 use Rattle.grammar.specs.Grammar.{Grammar}
 use Rattle.grammar.specs.Prediction.{Highest, Break, not-first, both-first, may-vanish, no-break, Prepared}
 use Rattle.grammar.specs.Single.{ll1-one}
-use Rattle.tables.specs.Tables.{tableRows, columns, predictionsSize, breaksSize, predictionPlace, breakPlace, Prediction, some, none, Tables}
+use Rattle.tables.specs.Tables.{tableRows, predictionsSize, breaksSize, predictionPlace, breakPlace, Prediction, some, none, Tables}
 use Rattle.predictions.specs.Stems.{stem-one}
 
 -- the highest shared symbol is one only

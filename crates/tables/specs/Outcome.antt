@@ -1,24 +1,26 @@
 -- What is laid down are the tables of the grammar in the rows.
 use Prim.Native.Nat.{ℕ, _+_, _*_, _/_, _%_, _≤_, _<_}
 use mathlib.Core.Path.{_≡_, sym, _∙_}
-use mathlib.Core.Bool.{Bool}
+use mathlib.Core.Bool.{Bool, false}
+use mathlib.Core.Logic.{by-cases}
+use native.Mathlib.Decide.{decLt}
 use mathlib.Core.List.{List}
-use lib.ListN.{getD}
+use lib.ListN.{length, getD, length-drop}
 use lib.Seq.{getD-drop}
 use native.Mathlib.Omega.{arith}
-use Rattle.base.specs.Tells.{Tells}
-use Rattle.base.specs.Filled.{Filled}
-use Rattle.grammar.specs.Limits.{maxTerminals, maxNonterminals}
+use Rattle.base.specs.Tells.{Tells, tells-no}
+use Rattle.grammar.specs.Limits.{maxTerminals, maxNonterminals, columns}
 use Rattle.grammar.specs.Grammar.{Grammar}
-use Rattle.grammar.specs.Prediction.{Prepared, Break}
+use Rattle.grammar.specs.Prediction.{Prepared, Break, not-first}
 use Rattle.grammar.specs.Rows.{grammarIn}
 use Rattle.sets.specs.Known.{Known}
 use Rattle.predictions.specs.Listing.{Cell, empty, full, Listed}
 use Rattle.predictions.specs.Verdict.{predicts-hit, hit-predicts}
-use Rattle.tables.specs.Tables.{columns, predictionsSize, breakPlace, predictionPlace, Prediction, some, none, Tables}
+use Rattle.tables.specs.Tables.{predictionsSize, tablesSize, breakPlace, predictionPlace, Prediction, some, none, Tables}
 use Rattle.tables.specs.Cells.{stepOf, maskOf, entryOf}
 use Rattle.tables.specs.Points.{point}
-use Rattle.tables.specs.One.{tables-one}
+use Rattle.tables.specs.One.{prediction-one, break-one}
+use Rattle.tables.specs.Grid.{Grid, grid-at}
 use Rattle.tables.specs.Writing.{Laid}
 
 -- what the writer needs to know
@@ -39,38 +41,64 @@ module _ (rows : List ℕ) (t n start count : ℕ) (s cells : List ℕ) (ready :
   cell-prediction (empty f) = none (λ q h. let x = predicts-hit rows t n start count s (ready .known) (ready .prepared .formed) h in f (x .0) (x .2) (x .3))
   cell-prediction (full l h) = some (hit-predicts rows t n start count s (ready .known) (ready .prepared .formed) (ready .prepared .useful) l h)
 
-  module _ (st₀ steps m₀ masks w : List ℕ) (fs : Filled (stepOf rows s cells t) 0 (n * columns) st₀ steps) (fm : Filled (maskOf steps t) 0 (n * columns) m₀ masks)
-      (laid : Laid cells (entryOf s steps masks t) n w) where
-    step-at : (i : ℕ) → i < n * columns → getD steps i 0 ≡ stepOf rows s cells t i
-    step-at i l = let z : 0 + i ≡ i = omega arith in rw z at (fs .inside i l)
+  -- no other lookahead begins anything
+  beyond : (M N a : ℕ) → t + 1 ≤ a → Break G M N a 0
+  unfolding grammarIn
+  beyond M N a l = not-first (λ h. omega (arith, h .0 .1))
 
-    break-at : (R Q a : ℕ) → R < n → Q < n → a < columns → Break G (t + 1 + R) (t + 1 + Q) a (entryOf s steps masks t R (Q * columns + a))
+  module _ (st₀ steps m₀ masks : List ℕ) (fs : Grid (stepOf rows s cells t) 0 (t + 1) n n 0 st₀ steps) (fm : Grid (maskOf steps t) 0 (t + 1) n n 0 m₀ masks) where
+    break-at : (R Q a : ℕ) → R < n → Q < n → a < t + 1 → Break G (t + 1 + R) (t + 1 + Q) a (entryOf s steps masks t R (Q * columns + a))
     unfolding entryOf maskOf
     break-at R Q a x y l =
         let few = ready-few in
         let i : ℕ = Q * columns + a in
-        let zq : i / columns ≡ Q = omega arith in
-        let za : i % columns ≡ a = omega arith in
-        let zi : 0 + i ≡ i = omega arith in
-        let e : getD masks i 0 ≡ maskOf steps t i = rw zi at (fm .inside i (omega arith)) in
-        let p = point rows t n start count s (ready .known) (ready .prepared) cells (ready .listed) steps step-at
+        let zq : i / columns ≡ Q = omega (arith, few .0) in
+        let za : i % columns ≡ a = omega (arith, few .0) in
+        let e : getD masks i 0 ≡ maskOf steps t i = grid-at fm Q a y l in
+        let p = point rows t n start count s (ready .known) (ready .prepared) cells (ready .listed) steps (grid-at fs)
         (t + 1 + R) (t + 1 + i / columns) (i % columns) (getD masks i 0) (omega (arith, few .0, few .1)) (omega (arith, few .0, few .1)) (omega arith) e
         in
         rw (zq, za) (rw (zq, za) at p)
 
-    pub tables-from : Tables (grammarIn rows t n start count) w
-    unfolding grammarIn
-    tables-from =
-        record {
-          size = laid .long;
-          prediction = λ R a x y. rw (laid .front (predictionPlace R a) (omega arith)) (cell-prediction (ready .listed .cell R a x y));
-          break = λ R Q a x y z.
-              rw (← getD-drop predictionsSize w (breakPlace R Q a) 0, laid .back .done R Q a x y z) (break-at R Q a x y z);
-          other = λ R Q a x y z h. sym (getD-drop predictionsSize w (breakPlace R Q a) 0) ∙ laid .back .other R Q a x y z h;
-        }
+    module _ (w : List ℕ) where
+      pub tables-from : Laid cells (entryOf s steps masks t) n (t + 1) w → Tables (grammarIn rows t n start count) w
+      unfolding grammarIn
+      tables-from laid =
+          record {
+            size = laid .long;
+            prediction = λ R a x y. rw (laid .front (predictionPlace R a) (omega arith)) (cell-prediction (ready .listed .cell R a x y));
+            break = λ R Q a x y z. rw (← getD-drop predictionsSize w (breakPlace R Q a) 0)
+                (by-cases (decLt a (t + 1)) (λ l. rw (laid .back .done R Q a x y l) (break-at R Q a x y l))
+                (λ l. rw (laid .back .other R Q a (omega (arith, ready-few .1)) (omega (arith, ready-few .1)) z (λ _ _. l)) (beyond (t + 1 + R) (t + 1 + Q) a (omega arith))));
+            other = λ R Q a x y z h. sym (getD-drop predictionsSize w (breakPlace R Q a) 0) ∙ laid .back .other R Q a x y z (λ i j _. h i j);
+          }
 
--- the same bytes as the tables' are the tables, and no others are
-pub told-tables : (rows : List ℕ) (t n start count : ℕ) (s cells w own : List ℕ) (r : Bool) → Ready rows t n start count s cells → Tables (grammarIn rows t n start count) own
-    → Tells (w ≡ own) r → Tells (Tables (grammarIn rows t n start count) w) r
-told-tables rows t n start count s cells w own r ready h u =
-    record { yes = λ e. rw (u .yes e) h; no = λ e k. u .no e (tables-one (ready .prepared) k h) }
+      -- the tables are laid so, and so only
+      pub laid-from : Tables (grammarIn rows t n start count) w → Laid cells (entryOf s steps masks t) n (t + 1) w
+      unfolding grammarIn
+      laid-from h =
+          record {
+            long = h .size;
+            front = λ i l.
+                let q : predictionPlace (i / columns) (i % columns) ≡ i = omega arith in
+                rw q at (prediction-one (ready .prepared) (h .prediction (i / columns) (i % columns) (omega arith) (omega arith))
+                (cell-prediction (ready .listed .cell (i / columns) (i % columns) (omega arith) (omega arith))));
+            back = record {
+              long = length-drop predictionsSize w ∙ omega (arith, h .size);
+              done = λ R Q a x y z. getD-drop predictionsSize w (breakPlace R Q a) 0
+                  ∙ break-one (ready .prepared) (h .break R Q a x y (omega (arith, ready-few .0))) (break-at R Q a x y z);
+              other = λ R Q a x y z g. getD-drop predictionsSize w (breakPlace R Q a) 0
+                  ∙ by-cases (decLt R n)
+                  (λ i. by-cases (decLt Q n)
+                  (λ j. break-one (ready .prepared) (h .break R Q a i j z) (beyond (t + 1 + R) (t + 1 + Q) a (omega (arith, g i j))))
+                  (λ j. h .other R Q a x y z (λ _ k. j k)))
+                  (λ i. h .other R Q a x y z (λ k _. i k));
+            };
+          }
+
+      pub told-tables : (r : Bool) → Tells (Laid cells (entryOf s steps masks t) n (t + 1) w) r → Tells (Tables (grammarIn rows t n start count) w) r
+      told-tables r u = record { yes = λ e. tables-from (u .yes e); no = λ e h. u .no e (laid-from h) }
+
+-- bytes of another length are no tables
+pub told-longer : (G : Grammar) (w : List ℕ) → (length w ≡ tablesSize → ⊥) → Tells (Tables G w) false
+told-longer G w n = tells-no (λ h. n (h .size))

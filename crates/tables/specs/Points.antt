@@ -11,7 +11,7 @@ use borrow.Author.Tests.{ne-eqb, eqb-true, eqb-false, le-leb, lt-leb}
 use native.Mathlib.Omega.{arith}
 use Rattle.base.specs.Choose.{choose, choose-of}
 use Rattle.base.specs.Bits.{Has, or-has, has-or-left, has-or-right, one-has, has-one, none-has, odd-has, has-odd}
-use Rattle.grammar.specs.Limits.{maxTerminals, maxNonterminals}
+use Rattle.grammar.specs.Limits.{maxTerminals, maxNonterminals, columns}
 use Rattle.grammar.specs.Each.{Each}
 use Rattle.grammar.specs.Grammar.{Grammar, Rule, Terminal}
 use Rattle.grammar.specs.Derivation.{First}
@@ -22,7 +22,7 @@ use Rattle.grammar.specs.RowRules.{bodyAt, rule-at, rule-row}
 use Rattle.sets.specs.Words.{follows}
 use Rattle.sets.specs.Closures.{Vanish, v-nil, vanish-join, Begin, b-here, b-rule, b-skip, begin-left, begin-right, begin-terminal, begin-first, first-begin, follow-after, after-follow}
 use Rattle.sets.specs.Known.{Known, known-null, known-first, known-after}
-use Rattle.predictions.specs.Hits.{hasb, hasb-has, has-hasb, hasb-not, columns, Hit, hit-exactly}
+use Rattle.predictions.specs.Hits.{hasb, hasb-has, has-hasb, hasb-not, Hit, hit-exactly}
 use Rattle.predictions.specs.Paths.{Chosen, by-begin, Path, p-end, p-down, path-begin, begin-path, unique, rule-body, below}
 use Rattle.predictions.specs.Stems.{single, path-stem, reach}
 use Rattle.predictions.specs.Listing.{Cell, empty, full, Listed}
@@ -114,7 +114,7 @@ module _ (rows : List ℕ) (t n start count : ℕ) (s : List ℕ) (known : Known
       let d : q .0 ≡ u = cc in
       rw d at (q .1)
 
-  module _ (steps : List ℕ) (filled : (i : ℕ) → i < n * columns → getD steps i 0 ≡ stepOf rows s cells t i) where
+  module _ (steps : List ℕ) (filled : (R a : ℕ) → R < n → a < t + 1 → getD steps (R * columns + a) 0 ≡ stepOf rows s cells t (R * columns + a)) where
     next-path : {a M x : ℕ} {u γ : List ℕ} {p : ℕ} (α β : List ℕ) → Rule G p M γ → γ ≡ α ++ x ∷ β → Vanish G α → Path G a x u → Path G a (next steps t a M) u
     unfolding next stepOf choose
     next-path {a} {M} {x} {u} {γ} {p} α β r e v h =
@@ -128,7 +128,7 @@ module _ (rows : List ℕ) (t n start count : ℕ) (s : List ℕ) (known : Known
         let hm : hasb (getD s M 0) a ≡ true = has-hasb (getD s M 0) a (known-first known M a (rule-small p M γ r) (w .0) .1 (begin-first (b-rule r b))) in
         let c : Cell rows s count M a (getD cells i 0) = rw zm at (listed .cell (M - t - 1) a (omega (arith, some-n)) (omega (arith, few))) in
         let f : getD steps i 0 ≡ lead s a (bodyAt rows (getD cells i 0 - 1)) =
-        filled i (omega (arith, few, some-n, m .0, m .1)) ∙ rw (za, zi, zm, ne-eqb a 0 (omega arith), hm)
+        filled (M - t - 1) a (omega (arith, m .0, m .1)) (omega (arith, w .1)) ∙ rw (za, zi, zm, ne-eqb a 0 (omega arith), hm)
         in
         let k = down-path α β r e v h (lead s a (bodyAt rows (getD cells i 0 - 1))) (cell-step (omega (arith, few)) (w .0) r b c) in
         let l : lead s a (bodyAt rows (getD cells i 0 - 1)) % symbolSpace ≡ lead s a (bodyAt rows (getD cells i 0 - 1)) = omega (arith, path-small k) in

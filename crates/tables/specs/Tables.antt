@@ -3,22 +3,24 @@ use Prim.Native.Nat.{ℕ, _+_, _*_, _<_}
 use mathlib.Core.Path.{_≡_}
 use mathlib.Core.List.{List}
 use lib.ListN.{length, getD}
+use Rattle.grammar.specs.Limits.{maxNonterminals, columns}
 use Rattle.grammar.specs.Grammar.{Grammar}
 use Rattle.grammar.specs.Prediction.{Predicts, Break}
 
--- "32 columns of lookahead 0..31", and as many rows
+-- a row for each nonterminal that a grammar may have
 abbrev pub tableRows : ℕ
-tableRows = 32
+tableRows = maxNonterminals
 
-abbrev pub columns : ℕ
-columns = 32
+-- the break points of one row
+abbrev pub rowSize : ℕ
+rowSize = tableRows * columns
 
 -- "The first 1,024 are predictions"; "The break points start at byte 1,024"
 abbrev pub predictionsSize : ℕ
 predictionsSize = tableRows * columns
 
 abbrev pub breaksSize : ℕ
-breaksSize = tableRows * tableRows * columns
+breaksSize = tableRows * rowSize
 
 -- "Tables are exactly 33,792 bytes"
 abbrev pub tablesSize : ℕ

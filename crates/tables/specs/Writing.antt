@@ -10,18 +10,19 @@ use lib.Bits.{bitOr}
 use lib.Pow.{pow-lt}
 use borrow.Author.Tests.{le-leb, lt-leb, eq-eqb, ne-eqb}
 use native.Mathlib.Nat.{mod-eq-of-lt}
-use native.Mathlib.Decide.{decLt, ℕ-discrete}
+use native.Mathlib.Decide.{ℕ-discrete}
 use native.Mathlib.Omega.{arith}
 use Rattle.base.specs.Choose.{choose}
 use Rattle.base.specs.Blocks.{zeros, byte-zeros, length-zeros, copied}
-use Rattle.base.specs.Filled.{Filled}
+use Rattle.grammar.specs.Limits.{columns}
 use Rattle.grammar.specs.Rows.{symbolSpace, lengthAt, symbolAt, symbolsFrom}
 use Rattle.grammar.specs.RowRules.{bodyAt}
 use Rattle.predictions.specs.Hits.{hasb}
-use Rattle.tables.specs.Tables.{tableRows, columns, predictionsSize, breaksSize, tablesSize, breakPlace}
+use Rattle.tables.specs.Tables.{tableRows, rowSize, predictionsSize, breaksSize, tablesSize, breakPlace}
+use Rattle.tables.specs.Grid.{Grid}
 use Rattle.grammar.specs.Prediction.{noBreak}
 use Rattle.sets.specs.Words.{follows}
-use Rattle.tables.specs.Cells.{lead, stepOf, next, stemBits, sharedFrom, pointOf}
+use Rattle.tables.specs.Cells.{lead, stepOf, next, stemBits, maskOf, sharedFrom, pointOf, entryOf}
 
 -- ---- the first symbol that a begins
 
@@ -120,14 +121,14 @@ module _ (steps : List ℕ) (t a : ℕ) where
 
 -- ---- the break points, row by row onto zeros
 
--- rows below r are written, and all else is 0
-pub record Broken (f : ℕ → ℕ → ℕ) (n r : ℕ) (w : List ℕ) : Type 0 where
+-- rows below r are written, and all else is 0; c lookaheads, n nonterminals
+pub record Broken (f : ℕ → ℕ → ℕ) (n c r : ℕ) (w : List ℕ) : Type 0 where
   pub long : length w ≡ breaksSize
-  pub done : (R Q a : ℕ) → R < r → Q < n → a < columns → getD w (breakPlace R Q a) 0 ≡ f R (Q * columns + a)
-  pub other : (R Q a : ℕ) → R < tableRows → Q < tableRows → a < columns → (R < r → Q < n → ⊥) → getD w (breakPlace R Q a) 0 ≡ 0
+  pub done : (R Q a : ℕ) → R < r → Q < n → a < c → getD w (breakPlace R Q a) 0 ≡ f R (Q * columns + a)
+  pub other : (R Q a : ℕ) → R < tableRows → Q < tableRows → a < columns → (R < r → Q < n → a < c → ⊥) → getD w (breakPlace R Q a) 0 ≡ 0
 
-module _ (f : ℕ → ℕ → ℕ) (n : ℕ) where
-  pub broken-none : (w : List ℕ) (m : ℕ) → m ≡ breaksSize → w ≡ zeros m → Broken f n 0 w
+module _ (f : ℕ → ℕ → ℕ) (n c : ℕ) where
+  pub broken-none : (w : List ℕ) (m : ℕ) → m ≡ breaksSize → w ≡ zeros m → Broken f n c 0 w
   broken-none w m l e =
       record {
         long = ap length e ∙ length-zeros m ∙ l;
@@ -135,32 +136,29 @@ module _ (f : ℕ → ℕ → ℕ) (n : ℕ) where
         other = λ R Q a x y z h. ap (λ (u : List ℕ). getD u (breakPlace R Q a) 0) e ∙ byte-zeros m (breakPlace R Q a);
       }
 
-  pub broken-more : (w w' : List ℕ) (r : ℕ) → n ≤ tableRows → r < tableRows → Broken f n r w → Filled (f r) (r * 1024) (n * columns) w w' → Broken f n (r + 1) w'
-  broken-more w w' r ln lr h u =
+  pub broken-more : (w w' : List ℕ) (r : ℕ) → n ≤ tableRows → c ≤ columns → r < n → Broken f n c r w → Grid (f r) (r * rowSize) c n n 0 w w' → Broken f n c (r + 1) w'
+  broken-more w w' r ln lc lr h u =
       record {
         long = u .long ∙ h .long;
         done = λ R Q a x y z. by-cases (ℕ-discrete R r)
-            (λ e. let q : breakPlace R Q a ≡ r * 1024 + (Q * columns + a) = omega arith in
-            ap (λ (i : ℕ). getD w' i 0) q ∙ u .inside (Q * columns + a) (omega arith) ∙ ap (λ (i : ℕ). f i (Q * columns + a)) (sym e))
-            (λ e. u .before (breakPlace R Q a) (omega arith) ∙ h .done R Q a (omega arith) y z);
+            (λ e. let q : breakPlace R Q a ≡ r * rowSize + Q * columns + a = omega arith in
+            ap (λ (i : ℕ). getD w' i 0) q ∙ u .done Q a y z ∙ ap (λ (i : ℕ). f i (Q * columns + a)) (sym e))
+            (λ e. u .kept (breakPlace R Q a) (λ Q' a' x' z' g. omega arith) ∙ h .done R Q a (omega arith) y z);
         other = λ R Q a x y z g.
-            let same : getD w' (breakPlace R Q a) 0 ≡ getD w (breakPlace R Q a) 0 =
-            by-cases (decLt R r) (λ m. u .before (breakPlace R Q a) (omega arith))
-            (λ m. by-cases (ℕ-discrete R r) (λ e. u .behind (breakPlace R Q a) (omega (arith, g (omega arith)))) (λ e. u .behind (breakPlace R Q a) (omega arith)))
-            in
-            same ∙ h .other R Q a x y z (λ m q. g (omega arith) q);
+            u .kept (breakPlace R Q a) (λ Q' a' x' z' k. g (omega arith) (omega arith) (omega arith))
+            ∙ h .other R Q a x y z (λ m q. g (omega arith) q);
       }
 
-  pub broken-all : (w : List ℕ) (r : ℕ) → n ≤ r → r ≤ n → Broken f n r w → Broken f n n w
+  pub broken-all : (w : List ℕ) (r : ℕ) → n ≤ r → r ≤ n → Broken f n c r w → Broken f n c n w
   broken-all w r l m h = let q : r ≡ n = omega arith in rw q at h
 
 -- ---- the two parts
 
 -- the predictions, then the break points
-pub record Laid (cells : List ℕ) (f : ℕ → ℕ → ℕ) (n : ℕ) (w : List ℕ) : Type 0 where
+pub record Laid (cells : List ℕ) (f : ℕ → ℕ → ℕ) (n c : ℕ) (w : List ℕ) : Type 0 where
   pub long : length w ≡ tablesSize
   pub front : (i : ℕ) → i < predictionsSize → getD w i 0 ≡ getD cells i 0
-  pub back : Broken f n n (drop predictionsSize w)
+  pub back : Broken f n c n (drop predictionsSize w)
 
 front-copied : (cells w₀ : List ℕ) → length w₀ ≡ tablesSize → length cells ≡ predictionsSize → copied w₀ 0 cells ≡ cells ++ drop predictionsSize w₀
 unfolding copied
@@ -170,9 +168,9 @@ front-copied cells w₀ l c =
     rw (m, take-length cells, z)
 
 -- as `&mut w[1024..]` leaves it, where the break-point writer left b in the part
-pub laid : (cells : List ℕ) (f : ℕ → ℕ → ℕ) (n : ℕ) (w₀ w b : List ℕ) → length w₀ ≡ tablesSize → length cells ≡ predictionsSize → w ≡ copied w₀ 0 cells → Broken f n n b
-    → Laid cells f n (take predictionsSize w ++ (b ++ drop (length w - predictionsSize) (drop predictionsSize w)))
-laid cells f n w₀ w b l c e h =
+pub laid : (cells : List ℕ) (f : ℕ → ℕ → ℕ) (n k : ℕ) (w₀ w b : List ℕ) → length w₀ ≡ tablesSize → length cells ≡ predictionsSize → w ≡ copied w₀ 0 cells → Broken f n k n b
+    → Laid cells f n k (take predictionsSize w ++ (b ++ drop (length w - predictionsSize) (drop predictionsSize w)))
+laid cells f n k w₀ w b l c e h =
     let v : w ≡ cells ++ drop predictionsSize w₀ = e ∙ front-copied cells w₀ l c in
     let lw : length w ≡ tablesSize = ap length v ∙ length-append cells (drop predictionsSize w₀) ∙ omega (arith, length-drop predictionsSize w₀) in
     let q : drop (length w - predictionsSize) (drop predictionsSize w) ≡ [] = drop-of-length-le (drop predictionsSize w) {i = length w - predictionsSize} (omega (arith, length-drop predictionsSize w)) in
@@ -215,3 +213,20 @@ module _ (s steps : List ℕ) (t M N a mask : ℕ) where
       point-stuck f e = rw (ne-eqb a 0 n, ← eb, yes, ← ec, f, ne-eqb (getD s M 0 % 2) 1 e)
 
 pub ruleset pointing = (point-end, point-not, point-both, point-follow, point-never, point-stuck)
+
+-- ---- a cell's row and lookahead
+
+pub mask-cell : (steps : List ℕ) (t q a v : ℕ) → a < columns → v ≡ stemBits steps t a symbolSpace (t + 1 + q) 0 → v ≡ maskOf steps t (q * columns + a)
+unfolding maskOf
+mask-cell steps t q a v l e =
+    let x : (q * columns + a) / columns ≡ q = omega arith in
+    let y : (q * columns + a) % columns ≡ a = omega arith in
+    rw (x, y) e
+
+pub entry-cell : (s steps masks : List ℕ) (t r q a v : ℕ) → a < columns → v ≡ pointOf s steps t (t + 1 + r) (t + 1 + q) a (getD masks (q * columns + a) 0)
+    → v ≡ entryOf s steps masks t r (q * columns + a)
+unfolding entryOf
+entry-cell s steps masks t r q a v l e =
+    let x : (q * columns + a) / columns ≡ q = omega arith in
+    let y : (q * columns + a) % columns ≡ a = omega arith in
+    rw (x, y) e

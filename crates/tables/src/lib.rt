@@ -4,24 +4,23 @@ ghost use mathlib.Core.Path.{_≡_};
 ghost use Prim.Native.Nat.{_+_, _-_, _*_, _<_, _≤_};
 ghost use lib.ListN.{length};
 ghost use Rattle.base.specs.Tells.{Tells};
-ghost use Rattle.base.specs.Filled.{Filled};
-ghost use Rattle.grammar.specs.Limits.{maxTerminals, maxNonterminals};
+ghost use Rattle.grammar.specs.Limits.{maxTerminals, maxNonterminals, columns};
 ghost use Rattle.grammar.specs.Rows.{symbolSpace, grammarIn};
 ghost use Rattle.grammar.specs.RowRules.{bodyAt};
 ghost use Rattle.sets.specs.Words.{setsSize};
 ghost use Rattle.predictions.specs.Hits.{hasb};
-ghost use Rattle.tables.specs.Tables.{columns, predictionsSize, breaksSize, tablesSize, Tables};
+ghost use Rattle.tables.specs.Tables.{rowSize, predictionsSize, breaksSize, tablesSize, Tables};
 ghost use Rattle.tables.specs.Outcome.{Ready};
 ghost use Rattle.tables.specs.Cells.{lead as leadm, stepOf, next as nextm, stemBits, maskOf, sharedFrom, pointOf, entryOf};
+ghost use Rattle.tables.specs.Grid.{Grid};
 ghost use Rattle.tables.specs.Writing.{Broken, Laid};
 
-const COLUMNS: usize = 32;
+// The break points of one row.
+const ROW_SIZE: usize = grammar::MAX_NONTERMINALS * grammar::COLUMNS;
 
-const BLOCK: usize = COLUMNS * COLUMNS;
+pub const PREDICTIONS_SIZE: usize = grammar::MAX_NONTERMINALS * grammar::COLUMNS;
 
-pub const PREDICTIONS_SIZE: usize = BLOCK;
-
-const BREAKS_SIZE: usize = COLUMNS * BLOCK;
+const BREAKS_SIZE: usize = grammar::MAX_NONTERMINALS * ROW_SIZE;
 
 pub const TABLES_SIZE: usize = PREDICTIONS_SIZE + BREAKS_SIZE;
 
@@ -67,25 +66,33 @@ fn step_of(rows: &[u8], sets: &[u32], cells: &[u8], t: usize, i: usize) -> u8
     requires { ⌜ (length (now sets) ≡ setsSize) × (t ≤ maxTerminals) × (i < predictionsSize) ⌝ }
     ensures { λ r. ⌜ r ≡ stepOf (now (rows .entry)) (now (sets .entry)) (now (cells .entry)) t i ⌝ }
 {
-    let a = i % COLUMNS;
+    let a = i % grammar::COLUMNS;
     if a == 0 {
         return 0;
     }
-    if predictions::has(sets[t + 1 + i / COLUMNS], a) {
+    if predictions::has(sets[t + 1 + i / grammar::COLUMNS], a) {
         let p = before(base::byte_at(cells, i));
         return lead(rows, p, a, sets) as u8;
     }
     0
 }
 
+// The steps of every nonterminal at every lookahead of the grammar.
 fn fill_steps(rows: &[u8], sets: &[u32], cells: &[u8], t: usize, n: usize, steps: &mut [u8])
     requires { ⌜ (length (now sets) ≡ setsSize) × (t ≤ maxTerminals) × (n ≤ maxNonterminals) × (length (now steps) ≡ predictionsSize) ⌝ }
-    ensures { λ _. ⌜ Filled (stepOf (now (rows .entry)) (now (sets .entry)) (now (cells .entry)) t) 0 (n * columns) (now (steps .entry)) (now (steps .exit)) ⌝ }
+    ensures { λ _. ⌜ Grid (stepOf (now (rows .entry)) (now (sets .entry)) (now (cells .entry)) t) 0 (t + 1) n n 0 (now (steps .entry)) (now (steps .exit)) ⌝ }
 {
-    let mut i: usize = 0;
-    while i < n * COLUMNS {
-        steps[0 + i] = step_of(rows, sets, cells, t, i);
-        i += 1;
+    let mut q: usize = 0;
+    let mut a: usize = 0;
+    while q < n {
+        let i = q * grammar::COLUMNS + a;
+        steps[i] = step_of(rows, sets, cells, t, i);
+        a += 1;
+        if a <= t {
+            continue;
+        }
+        a = 0;
+        q += 1;
     }
 }
 
@@ -97,7 +104,7 @@ fn next(steps: &[u8], t: usize, a: usize, x: usize) -> usize
     if x <= t {
         return base::byte_at(steps, a) % grammar::SYMBOL_SPACE;
     }
-    base::byte_at(steps, (x - t - 1) * COLUMNS + a) % grammar::SYMBOL_SPACE
+    base::byte_at(steps, (x - t - 1) * grammar::COLUMNS + a) % grammar::SYMBOL_SPACE
 }
 
 // The symbols of the stem from x to a, as bits.
@@ -119,14 +126,21 @@ fn stem_bits(steps: &[u8], t: usize, a: usize, from: usize) -> u64
     acc
 }
 
+// The stems' symbols, of every nonterminal at every lookahead of the grammar.
 fn fill_masks(steps: &[u8], t: usize, n: usize, masks: &mut [u64])
     requires { ⌜ (t ≤ maxTerminals) × (n ≤ maxNonterminals) × (length (now masks) ≡ predictionsSize) ⌝ }
-    ensures { λ _. ⌜ Filled (maskOf (now (steps .entry)) t) 0 (n * columns) (now (masks .entry)) (now (masks .exit)) ⌝ }
+    ensures { λ _. ⌜ Grid (maskOf (now (steps .entry)) t) 0 (t + 1) n n 0 (now (masks .entry)) (now (masks .exit)) ⌝ }
 {
-    let mut i: usize = 0;
-    while i < n * COLUMNS {
-        masks[0 + i] = stem_bits(steps, t, i % COLUMNS, t + 1 + i / COLUMNS);
-        i += 1;
+    let mut q: usize = 0;
+    let mut a: usize = 0;
+    while q < n {
+        masks[q * grammar::COLUMNS + a] = stem_bits(steps, t, a, t + 1 + q);
+        a += 1;
+        if a <= t {
+            continue;
+        }
+        a = 0;
+        q += 1;
     }
 }
 
@@ -170,38 +184,71 @@ fn point(sets: &[u32], steps: &[u8], t: usize, m: usize, n: usize, a: usize, mas
     0
 }
 
-// The break points of row r.
-fn fill_row(sets: &[u32], steps: &[u8], masks: &[u64], t: usize, n: usize, r: usize, w: &mut [u8])
-    requires { ⌜ (length (now sets) ≡ setsSize) × (length (now masks) ≡ predictionsSize) × (t ≤ maxTerminals) × (n ≤ maxNonterminals) × (r < n) × (length (now w) ≡ breaksSize) ⌝ }
-    ensures { λ _. ⌜ Filled (entryOf (now (sets .entry)) (now (steps .entry)) (now (masks .entry)) t r) (r * 1024) (n * columns) (now (w .entry)) (now (w .exit)) ⌝ }
+// The break points of row r, from `at` on.
+fn fill_row(
+    sets: &[u32],
+    steps: &[u8],
+    masks: &[u64],
+    t: usize,
+    n: usize,
+    r: usize,
+    at: usize,
+    w: &mut [u8],
+)
+    requires { ⌜ (length (now sets) ≡ setsSize) × (length (now masks) ≡ predictionsSize) × (t ≤ maxTerminals) × (n ≤ maxNonterminals) × (r < n) × (at + rowSize ≤ length (now w)) × (length (now w) ≤ breaksSize) ⌝ }
+    ensures { λ _. ⌜ Grid (entryOf (now (sets .entry)) (now (steps .entry)) (now (masks .entry)) t r) at (t + 1) n n 0 (now (w .entry)) (now (w .exit)) ⌝ }
 {
-    let mut i: usize = 0;
-    while i < n * COLUMNS {
-        let v = point(
-            sets,
-            steps,
-            t,
-            t + 1 + r,
-            t + 1 + i / COLUMNS,
-            i % COLUMNS,
-            masks[i],
-        );
-        w[r * BLOCK + i] = v as u8;
-        i += 1;
+    let mut q: usize = 0;
+    let mut a: usize = 0;
+    while q < n {
+        let i = q * grammar::COLUMNS + a;
+        w[at + i] = point(sets, steps, t, t + 1 + r, t + 1 + q, a, masks[i]) as u8;
+        a += 1;
+        if a <= t {
+            continue;
+        }
+        a = 0;
+        q += 1;
     }
 }
 
 // All break points, onto zeros.
 fn write_breaks(sets: &[u32], steps: &[u8], masks: &[u64], t: usize, n: usize, w: &mut [u8])
     requires { ⌜ (length (now sets) ≡ setsSize) × (length (now masks) ≡ predictionsSize) × (t ≤ maxTerminals) × (n ≤ maxNonterminals) × (length (now w) ≡ breaksSize) ⌝ }
-    ensures { λ _. ⌜ Broken (entryOf (now (sets .entry)) (now (steps .entry)) (now (masks .entry)) t) n n (now (w .exit)) ⌝ }
+    ensures { λ _. ⌜ Broken (entryOf (now (sets .entry)) (now (steps .entry)) (now (masks .entry)) t) n (t + 1) n (now (w .exit)) ⌝ }
 {
     base::zero(w);
     let mut r: usize = 0;
     while r < n {
-        fill_row(sets, steps, masks, t, n, r, w);
+        fill_row(sets, steps, masks, t, n, r, r * ROW_SIZE, w);
         r += 1;
     }
+}
+
+// Whether the bytes are the break points. `row` is for one row of them.
+fn holds_breaks(
+    sets: &[u32],
+    steps: &[u8],
+    masks: &[u64],
+    t: usize,
+    n: usize,
+    w: &[u8],
+    row: &mut [u8],
+) -> bool
+    requires { ⌜ (length (now sets) ≡ setsSize) × (length (now masks) ≡ predictionsSize) × (t ≤ maxTerminals) × (n ≤ maxNonterminals) × (length (now w) ≡ breaksSize) × (length (now row) ≡ rowSize) ⌝ }
+    ensures { λ r. ⌜ Tells (Broken (entryOf (now (sets .entry)) (now (steps .entry)) (now (masks .entry)) t) n (t + 1) n (now (w .entry))) r ⌝ }
+{
+    base::zero(row);
+    let mut r: usize = 0;
+    while r < n {
+        fill_row(sets, steps, masks, t, n, r, 0, row);
+        if base::same(&w[r * ROW_SIZE..r * ROW_SIZE + ROW_SIZE], row) {
+            r += 1;
+            continue;
+        }
+        return false;
+    }
+    base::all_zero(&w[n * ROW_SIZE..])
 }
 
 // The predictions in the cells, then the break points. The tail of the lent tables, from byte 1,024, is lent on to the break-point writer.
@@ -215,10 +262,30 @@ fn lay(
     tables: &mut [u8],
 )
     requires { ⌜ (length (now sets) ≡ setsSize) × (length (now cells) ≡ predictionsSize) × (length (now masks) ≡ predictionsSize) × (t ≤ maxTerminals) × (n ≤ maxNonterminals) × (length (now tables) ≡ tablesSize) ⌝ }
-    ensures { λ _. ⌜ Laid (now (cells .entry)) (entryOf (now (sets .entry)) (now (steps .entry)) (now (masks .entry)) t) n (now (tables .exit)) ⌝ }
+    ensures { λ _. ⌜ Laid (now (cells .entry)) (entryOf (now (sets .entry)) (now (steps .entry)) (now (masks .entry)) t) n (t + 1) (now (tables .exit)) ⌝ }
 {
     base::copy(tables, 0, cells);
     write_breaks(sets, steps, masks, t, n, &mut tables[PREDICTIONS_SIZE..]);
+}
+
+// Whether the bytes are the predictions in the cells, then the break points.
+fn holds(
+    sets: &[u32],
+    cells: &[u8],
+    steps: &[u8],
+    masks: &[u64],
+    t: usize,
+    n: usize,
+    tables: &[u8],
+    row: &mut [u8],
+) -> bool
+    requires { ⌜ (length (now sets) ≡ setsSize) × (length (now cells) ≡ predictionsSize) × (length (now masks) ≡ predictionsSize) × (t ≤ maxTerminals) × (n ≤ maxNonterminals) × (length (now tables) ≡ tablesSize) × (length (now row) ≡ rowSize) ⌝ }
+    ensures { λ r. ⌜ Tells (Laid (now (cells .entry)) (entryOf (now (sets .entry)) (now (steps .entry)) (now (masks .entry)) t) n (t + 1) (now (tables .entry))) r ⌝ }
+{
+    if base::same(&tables[0..PREDICTIONS_SIZE], cells) {
+        return holds_breaks(sets, steps, masks, t, n, &tables[PREDICTIONS_SIZE..], row);
+    }
+    false
 }
 
 // Writes the tables of the grammar in the rows, which passes replies 1 to 3; `sets` are its words and `cells` its predictions.
@@ -256,7 +323,13 @@ pub fn is_prepared(
     requires { ⌜ Ready (now rows) t n start count (now sets) (now cells) ⌝ }
     ensures { λ r. ⌜ Tells (Tables (grammarIn (now (rows .entry)) t n start count) (now (tables .entry))) r ⌝ }
 {
-    let mut own = [0u8; TABLES_SIZE];
-    write_tables(rows, t, n, start, count, sets, cells, &mut own);
-    base::same(tables, &own)
+    if tables.len() != TABLES_SIZE {
+        return false;
+    }
+    let mut steps = [0u8; PREDICTIONS_SIZE];
+    let mut masks = [0u64; PREDICTIONS_SIZE];
+    let mut row = [0u8; ROW_SIZE];
+    fill_steps(rows, sets, cells, t, n, &mut steps);
+    fill_masks(&steps, t, n, &mut masks);
+    holds(sets, cells, &steps, &masks, t, n, tables, &mut row)
 }

@@ -7,13 +7,14 @@ use lib.Dec.{eqb}
 use native.Mathlib.Omega.{arith}
 use Rattle.base.specs.Choose.{choose}
 use Rattle.base.specs.Blocks.{zeros}
+use Rattle.grammar.specs.Limits.{columns}
 use Rattle.grammar.specs.Each.{Each}
 use Rattle.grammar.specs.Grammar.{Grammar}
 use Rattle.grammar.specs.Prediction.{Break}
 use Rattle.grammar.specs.Rows.{symbolSpace, grammarIn}
 use Rattle.grammar.specs.Reference.{reference}
 use Rattle.predictions.specs.Hits.{hasb}
-use Rattle.tables.specs.Tables.{tableRows, columns, rowSymbol, Prediction}
+use Rattle.tables.specs.Tables.{tableRows, rowSymbol, Prediction}
 use Rattle.tables.specs.Cells.{next, stemBits, sharedFrom, pointOf}
 use Rattle.tables.specs.Points.{point}
 use Rattle.tables.specs.Outcome.{cell-prediction}
@@ -74,7 +75,7 @@ entry M N a = pointOf words steps 5 M N a (stemBits steps 5 a symbolSpace N 0)
 
 entry-is : (M N a : ℕ) → M < symbolSpace → N < symbolSpace → a < columns → Break G M N a (entry M N a)
 unfolding entry
-entry-is M N a l m k = point rows 5 5 6 8 words known prepared cells listed steps (λ i x. step-is i (omega arith)) M N a (stemBits steps 5 a symbolSpace N 0) l m k refl
+entry-is M N a l m k = point rows 5 5 6 8 words known prepared cells listed steps (λ R b x y. step-is (R * columns + b) (omega arith)) M N a (stemBits steps 5 a symbolSpace N 0) l m k refl
 
 as-reference : {M N a v : ℕ} → Break G M N a v → Break reference M N a v
 as-reference {M} {N} {a} {v} h = subst (λ (K : Grammar). Break K M N a v) is-reference h

@@ -1,15 +1,17 @@
+use Rattle.base.specs.Blocks.{alike-more}
 use Rattle.base.specs.Blocks.{Alike, comparing}
 use Prim.Native.Nat.{_-_, _≤_}
 use lib.ListN.{length}
+use mathlib.Core.Path.{_≡_}
 use borrow.Author.Needs.{needs}
 use Rattle.base.proofs.same.Statement.{statement}
 use Rattle.base.proofs.same.Tie as tie
 
 abbrev Inv-loop : tie.InvT-loop
-Inv-loop a b i₀ i = (i ≤ length a) × Alike a b i
+Inv-loop a b acc₀ i₀ acc i = (i ≤ length a) × (length a ≡ length b) × Alike a b i acc
 
 abbrev μ-loop : tie.MeasureT-loop
-μ-loop a b i₀ i = length a - i
+μ-loop a b acc₀ i₀ acc i = length a - i
 
 returns : tie.Need-returns Inv-loop μ-loop
 returns c = search (comparing, needs)
@@ -17,26 +19,26 @@ returns c = search (comparing, needs)
 loop-holds : tie.Need-loop-holds Inv-loop μ-loop
 loop-holds c = search (comparing, needs)
 
-shared-slice-read-if2 : tie.Need-shared-slice-read-if2 Inv-loop μ-loop
-shared-slice-read-if2 c = search needs
+shared-slice-read-odd-out : tie.Need-shared-slice-read-odd-out Inv-loop μ-loop
+shared-slice-read-odd-out c = search (comparing, needs)
 
-shared-slice-read-if2-2 : tie.Need-shared-slice-read-if2-2 Inv-loop μ-loop
-shared-slice-read-if2-2 c = search needs
+shared-slice-read-odd-out-2 : tie.Need-shared-slice-read-odd-out-2 Inv-loop μ-loop
+shared-slice-read-odd-out-2 c = search (comparing, needs)
+
+odd-out-requires : tie.Need-odd-out-requires Inv-loop μ-loop
+odd-out-requires c κs = search (comparing, needs)
+
+add-i : tie.Need-add-i Inv-loop μ-loop
+add-i c = search (comparing, needs)
+
+loop-less : tie.Need-loop-less Inv-loop μ-loop
+loop-less c = search (comparing, needs)
+
+loop-again : tie.Need-loop-again Inv-loop μ-loop
+loop-again c = (search needs, search needs, alike-more _ _ _ _ _ (c .odd-out .ensures) (c .before .before .before .before .loop .inv .2))
 
 returns-2 : tie.Need-returns-2 Inv-loop μ-loop
 returns-2 c = search (comparing, needs)
-
-add-i : tie.Need-add-i Inv-loop μ-loop
-add-i c = search needs
-
-loop-less : tie.Need-loop-less Inv-loop μ-loop
-loop-less c = search needs
-
-loop-again : tie.Need-loop-again Inv-loop μ-loop
-loop-again c = search (comparing, needs)
-
-returns-3 : tie.Need-returns-3 Inv-loop μ-loop
-returns-3 c = search (comparing, needs)
 
 pub same-spec : {M : Type 1} → statement M
 same-spec =
@@ -46,10 +48,10 @@ same-spec =
     μ-loop
     returns
     loop-holds
-    shared-slice-read-if2
-    shared-slice-read-if2-2
-    returns-2
+    shared-slice-read-odd-out
+    shared-slice-read-odd-out-2
+    odd-out-requires
     add-i
     loop-less
     loop-again
-    returns-3)
+    returns-2)

@@ -1,5 +1,5 @@
+use Rattle.grammar.specs.Limits.{columns}
 use Rattle.predictions.specs.Listing.{cellsSize, Marked, marking, marked-more}
-use Rattle.predictions.specs.Hits.{columns}
 use Prim.Native.Nat.{_+_, _-_, _≤_}
 use mathlib.Core.Path.{_≡_}
 use lib.ListN.{length}

@@ -1,29 +1,53 @@
-use Rattle.tables.specs.Outcome.{told-tables}
+use Rattle.tables.specs.Outcome.{ready-few, told-tables, told-longer}
 use borrow.Author.Needs.{needs}
 use Rattle.tables.proofs.is_prepared.Statement.{statement}
 use Rattle.tables.proofs.is_prepared.Tie as tie
 
-slice-aggregate-write-tables : tie.Need-slice-aggregate-write-tables
-slice-aggregate-write-tables c = search needs
-
-write-tables-requires : tie.Need-write-tables-requires
-write-tables-requires c κs = search needs
-
-slice-aggregate-same : tie.Need-slice-aggregate-same
-slice-aggregate-same c = search needs
-
-same-requires : tie.Need-same-requires
-same-requires c κs = search needs
-
 returns : tie.Need-returns
-returns c = search (told-tables, needs)
+returns c = told-longer _ _ (search needs)
+
+slice-aggregate-fill-steps : tie.Need-slice-aggregate-fill-steps
+slice-aggregate-fill-steps c = search needs
+
+fill-steps-requires : tie.Need-fill-steps-requires
+fill-steps-requires c κs = let r = c .before .before .before .before .before .before .pre in let h = ready-few _ _ _ _ _ _ _ r in let l = r .known .long in let m = r .listed .long in search needs
+
+slice-aggregate-fill-masks : tie.Need-slice-aggregate-fill-masks
+slice-aggregate-fill-masks c = search needs
+
+slice-aggregate-fill-masks-2 : tie.Need-slice-aggregate-fill-masks-2
+slice-aggregate-fill-masks-2 c = search needs
+
+fill-masks-requires : tie.Need-fill-masks-requires
+fill-masks-requires c κs = let r = c .before .before .before .before .before .before .before .before .before .before .pre in let h = ready-few _ _ _ _ _ _ _ r in let l = r .known .long in let m = r .listed .long in search needs
+
+slice-aggregate-holds : tie.Need-slice-aggregate-holds
+slice-aggregate-holds c = search needs
+
+slice-aggregate-holds-2 : tie.Need-slice-aggregate-holds-2
+slice-aggregate-holds-2 c = search needs
+
+slice-aggregate-holds-3 : tie.Need-slice-aggregate-holds-3
+slice-aggregate-holds-3 c = search needs
+
+holds-requires : tie.Need-holds-requires
+holds-requires c κs = let r = c .before .before .before .before .before .before .before .before .before .before .before .before .before .before .before .pre in let h = ready-few _ _ _ _ _ _ _ r in let l = r .known .long in let m = r .listed .long in search needs
+
+returns-2 : tie.Need-returns-2
+returns-2 c = told-tables _ _ _ _ _ _ _ (c .before .before .before .before .before .before .before .before .before .before .before .before .before .before .before .before .before .pre) _ _ _ _ (c .before .before .before .before .before .before .before .before .before .before .fill-steps .ensures) (c .before .before .before .before .before .before .fill-masks .ensures) _ _ (c .before .holds .ensures)
 
 pub is-prepared-spec : {M : Type 1} → statement M
 is-prepared-spec =
     tie.close
     (tie.spec
-    slice-aggregate-write-tables
-    write-tables-requires
-    slice-aggregate-same
-    same-requires
-    returns)
+    returns
+    slice-aggregate-fill-steps
+    fill-steps-requires
+    slice-aggregate-fill-masks
+    slice-aggregate-fill-masks-2
+    fill-masks-requires
+    slice-aggregate-holds
+    slice-aggregate-holds-2
+    slice-aggregate-holds-3
+    holds-requires
+    returns-2)

@@ -1,7 +1,7 @@
+use Rattle.grammar.specs.Limits.{columns}
 use Rattle.tables.specs.Writing.{lead-found, lead-on, lead-none}
 use Rattle.tables.specs.Writing.{LeadAt, lead-start}
 use Rattle.sets.specs.Words.{setsSize}
-use Rattle.predictions.specs.Hits.{columns}
 use Rattle.grammar.specs.Rows.{lengthAt}
 use Prim.Native.Nat.{_-_, _≤_, _<_}
 use mathlib.Core.Path.{_≡_}

@@ -1,7 +1,6 @@
 use Rattle.tables.specs.Writing.{shared-here, shared-on, shared-done}
 use Rattle.tables.specs.Cells.{sharedFrom}
-use Rattle.grammar.specs.Limits.{maxTerminals}
-use Rattle.predictions.specs.Hits.{columns}
+use Rattle.grammar.specs.Limits.{maxTerminals, columns}
 use Rattle.grammar.specs.Rows.{symbolSpace}
 use Prim.Native.Nat.{_≤_, _<_}
 use mathlib.Core.Path.{_≡_}

@@ -1,7 +1,6 @@
 use Rattle.tables.specs.Writing.{stem-last, stem-on, stem-done}
 use Rattle.tables.specs.Cells.{stemBits}
-use Rattle.grammar.specs.Limits.{maxTerminals}
-use Rattle.predictions.specs.Hits.{columns}
+use Rattle.grammar.specs.Limits.{maxTerminals, columns}
 use Rattle.grammar.specs.Rows.{symbolSpace}
 use Prim.Native.Nat.{_≤_, _<_}
 use mathlib.Core.Path.{_≡_}
