@@ -1,7 +1,7 @@
--- Numbers of one and two bytes in a list of bytes, little-endian. A read beyond the end gives 0 and a write there changes nothing, so neither asks for anything.
-use Prim.Native.Nat.{ℕ, _+_, _*_, _/_, _%_, _<_, _≤_}
-use mathlib.Core.Path.{_≡_, sym, _∙_}
-use mathlib.Core.List.{List}
+-- Numbers in a list of bytes, little-endian. A read beyond the end gives 0 and a write there changes nothing, so neither asks for anything.
+use Prim.Native.Nat.{ℕ, zero, suc, _+_, _*_, _/_, _%_, _<_, _≤_}
+use mathlib.Core.Path.{_≡_, refl, sym, ap, _∙_}
+use mathlib.Core.List.{List, [], _∷_}
 use lib.ListN.{length, getD, set, length-set, List·getD-eq-default}
 use lib.Seq.{getD-set-same, getD-set-other, set-out}
 use native.Mathlib.Omega.{arith}
@@ -17,6 +17,16 @@ get16 xs at = getD xs at 0 + 256 * getD xs (at + 1) 0
 -- v as the two-byte number at a place
 abbrev pub put16 : List ℕ → ℕ → ℕ → List ℕ
 put16 xs at v = set (set xs at (v % 256)) (at + 1) (v / 256)
+
+-- "All numbers are little-endian"
+unfoldable pub leBytes : ℕ → ℕ → List ℕ
+leBytes zero v = []
+leBytes (suc k) v = v % 256 ∷ leBytes k (v / 256)
+
+pub length-le : (k v : ℕ) → length (leBytes k v) ≡ k
+unfolding leBytes
+length-le zero v = refl
+length-le (suc k) v = ap suc (length-le k (v / 256))
 
 -- beyond the end
 

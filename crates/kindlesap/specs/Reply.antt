@@ -6,6 +6,7 @@ use lib.ListN.{length, getD, drop, set, length-append}
 use lib.Seq.{paste, paste-suc, paste-zero, getD-drop, drop-drop}
 use native.Mathlib.Numerals.{add-one}
 use native.Mathlib.Omega.{arith}
+use Rattle.base.specs.Bytes.{leBytes, length-le}
 use Rattle.base.specs.Blocks.{copied, zeros, copied-zeros}
 use Rattle.kindlesap.specs.declared.Counts.{Counts}
 use Rattle.kindlesap.specs.declared.Reason.{Reason}
@@ -44,21 +45,11 @@ countsOf (Refused x) = noCounts
 pub counts-refused : (r : Reply) (x : Reason) → r ≡ Refused x → noCounts ≡ countsOf r
 counts-refused r x e = rw e
 
--- "All numbers are little-endian"
-unfoldable pub leBytes : ℕ → ℕ → List ℕ
-leBytes zero v = []
-leBytes (suc k) v = v % 256 ∷ leBytes k (v / 256)
-
 -- "fields in the order below (number and counts 4 bytes each)", place 8 and expected 4
 unfoldable pub replyBytes : Reply → List ℕ
 replyBytes r =
     leBytes 4 (numberOf r) ++ leBytes 8 (placeOf r) ++ leBytes 4 (expectedOf r)
     ++ leBytes 4 (countsOf r .total) ++ leBytes 4 (countsOf r .kept) ++ leBytes 4 (countsOf r .made) ++ leBytes 4 (countsOf r .«given_up»)
-
-pub length-le : (k v : ℕ) → length (leBytes k v) ≡ k
-unfolding leBytes
-length-le zero v = refl
-length-le (suc k) v = ap suc (length-le k (v / 256))
 
 -- ---- writing a number: its bytes from i on are those of x
 

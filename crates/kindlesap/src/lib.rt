@@ -4,11 +4,12 @@ use grammar::Head;
 ghost use mathlib.Core.Path.{_≡_};
 ghost use Prim.Native.Nat.{_+_, _<_, _≤_};
 ghost use lib.ListN.{length};
+ghost use Rattle.base.specs.Bytes.{leBytes};
 ghost use Rattle.base.specs.Blocks.{copied, zeros};
 ghost use Rattle.grammar.specs.Limits.{maxProductions};
 ghost use Rattle.grammar.specs.Rows.{grammarIn};
 ghost use Rattle.grammar.specs.Grammar.{WellFormed};
-ghost use Rattle.kindlesap.specs.Reply.{leBytes, numberOf, placeOf, countsOf, replyBytes};
+ghost use Rattle.kindlesap.specs.Reply.{numberOf, placeOf, countsOf, replyBytes};
 ghost use Rattle.kindlesap.specs.Prepare.{Judged, Prepares, Called};
 
 const REPLY_SIZE: usize = 32;

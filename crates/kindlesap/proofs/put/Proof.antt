@@ -1,4 +1,5 @@
-use Rattle.kindlesap.specs.Reply.{leBytes, LeAt, le-start, le-next, put-none, put-turn, put-end}
+use Rattle.base.specs.Bytes.{leBytes}
+use Rattle.kindlesap.specs.Reply.{LeAt, le-start, le-next, put-none, put-turn, put-end}
 use lib.Seq.{paste}
 use Prim.Native.Nat.{_+_, _-_, _≤_}
 use mathlib.Core.Path.{_≡_}

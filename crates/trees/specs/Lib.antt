@@ -1,0 +1,5 @@
+-- Meaning: the tree area.
+pub mod Area
+-- A forest and the list of its nodes, and that list in bytes.
+pub mod Nodes
+pub mod Coded
