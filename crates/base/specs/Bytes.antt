@@ -14,6 +14,14 @@ byteAt xs at = getD xs at 0
 abbrev pub get16 : List ℕ → ℕ → ℕ
 get16 xs at = getD xs at 0 + 256 * getD xs (at + 1) 0
 
+-- the four-byte number at a place
+abbrev pub get32 : List ℕ → ℕ → ℕ
+get32 xs at = getD xs at 0 + 256 * (getD xs (at + 1) 0 + 256 * (getD xs (at + 2) 0 + 256 * getD xs (at + 3) 0))
+
+-- every element is a byte
+abbrev pub Bytes : List ℕ → Type 0
+Bytes xs = (i : ℕ) → getD xs i 0 < 256
+
 -- v as the two-byte number at a place
 abbrev pub put16 : List ℕ → ℕ → ℕ → List ℕ
 put16 xs at v = set (set xs at (v % 256)) (at + 1) (v / 256)
@@ -65,3 +73,27 @@ byte-put16 xs at v j a b =
     getD-set-other (set xs at (v % 256)) (at + 1) j (v / 256) 0 b ∙ getD-set-other xs at j (v % 256) 0 a
 
 pub ruleset outs = (byte-out, set-beyond, get16-out, put16-out)
+
+-- a four-byte number is two of two
+
+pub get32-out : (xs : List ℕ) (at : ℕ) → length xs ≤ at → 0 ≡ get32 xs at
+get32-out xs at l =
+    let a = byte-out xs at l in
+    let b = byte-out xs (at + 1) (omega arith) in
+    let c = byte-out xs (at + 2) (omega arith) in
+    let d = byte-out xs (at + 3) (omega arith) in
+    omega arith
+
+pub get32-short : (xs : List ℕ) (at v : ℕ) → length xs ≤ at + 1 → v ≡ get16 xs at → v ≡ get32 xs at
+get32-short xs at v l e =
+    let c = byte-out xs (at + 2) (omega arith) in
+    let d = byte-out xs (at + 3) (omega arith) in
+    omega arith
+
+pub get32-two : (xs : List ℕ) (at v w : ℕ) → v ≡ get16 xs at → w ≡ get16 xs (at + 2) → v + 65536 * w ≡ get32 xs at
+get32-two xs at v w e f =
+    let q : at + 2 + 1 ≡ at + 3 = omega arith in
+    let g : w ≡ getD xs (at + 2) 0 + 256 * getD xs (at + 3) 0 = rw q at f in
+    omega arith
+
+pub ruleset wholes = (get32-out, get32-short, get32-two)

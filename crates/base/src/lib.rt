@@ -1,8 +1,8 @@
 // Bytes and runs of bytes. No function asks anything of its caller: a read beyond the end gives 0, and a write there changes nothing.
 ghost use mathlib.Core.Path.{_≡_};
-ghost use Prim.Native.Nat.{_<_, min};
+ghost use Prim.Native.Nat.{_^_, _<_, min};
 ghost use lib.ListN.{length, set};
-ghost use Rattle.base.specs.Bytes.{byteAt, get16 as get16m, put16 as put16m};
+ghost use Rattle.base.specs.Bytes.{byteAt, get16 as get16m, get32 as get32m, put16 as put16m};
 ghost use Rattle.base.specs.Blocks.{zeros, copied};
 ghost use Rattle.base.specs.Tells.{Tells};
 
@@ -41,6 +41,20 @@ pub fn get16(b: &[u8], at: usize) -> usize
         let low = byte_at(b, at);
         let high = byte_at(b, at + 1);
         return low + 256 * high;
+    }
+    0
+}
+
+// The four-byte number at `at`, little-endian.
+pub fn get32(b: &[u8], at: usize) -> usize
+    ensures { λ r. ⌜ (r ≡ get32m (now (b .entry)) at) × (r < 2 ^ 32) ⌝ }
+{
+    if at < b.len() {
+        let low = get16(b, at);
+        if at + 1 < b.len() {
+            return low + 65536 * get16(b, at + 2);
+        }
+        return low;
     }
     0
 }

@@ -6,3 +6,5 @@ pub mod Traced
 pub mod Exactly
 pub mod Viable
 pub mod Ends
+pub mod Tokens
+pub mod Parsing

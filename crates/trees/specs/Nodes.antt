@@ -29,6 +29,15 @@ preorder Forest.nil = []
 preorder (Forest.leaf s a g r) = leafNode s a g ∷ preorder r
 preorder (Forest.node s M p k r) = innerNode s M p ∷ (preorder k ++ preorder r)
 
+-- the tokens of the leaves
+abbrev pub leavesOf : List Node → List Token
+leavesOf [] = []
+leavesOf (e ∷ es) = go (e .production) (leavesOf es)
+  where
+    go : ℕ → List Token → List Token
+    go zero w = record { kind = e .symbol; tag = e .tag } ∷ w
+    go (suc p) w = w
+
 -- how many trees stand side by side
 abbrev pub trees : Forest → ℕ
 trees Forest.nil = 0
@@ -182,3 +191,17 @@ fed-before {ar} es (Formed.node {s = s} {M = M} {p = p} {k = k} {r = r} e h j) u
 
 pub fed-preorder : {ar : ℕ → ℕ} {f : Forest} → Formed ar f → Fed ar (preorder f)
 fed-preorder {ar} {f} h = rw (append-nil (preorder f)) at (fed-before [] h Fed.nil)
+
+leaves-append : (es ds : List Node) → leavesOf (es ++ ds) ≡ leavesOf es ++ leavesOf ds
+leaves-append [] ds = refl
+leaves-append (e ∷ es) ds = go (e .production) refl (leaves-append es ds)
+  where
+    go : (p : ℕ) → e .production ≡ p → leavesOf (es ++ ds) ≡ leavesOf es ++ leavesOf ds → leavesOf (e ∷ (es ++ ds)) ≡ leavesOf (e ∷ es) ++ leavesOf ds
+    go zero q h = rw q (ap (λ (u : List Token). record { kind = e .symbol; tag = e .tag } ∷ u) h)
+    go (suc p) q h = rw q h
+
+-- they are what the forest yields
+pub leaves-yield : {ar : ℕ → ℕ} {f : Forest} → Formed ar f → leavesOf (preorder f) ≡ yield f
+leaves-yield Formed.nil = refl
+leaves-yield (Formed.leaf {a = a} {g = g} h) = ap (λ (u : List Token). record { kind = a; tag = g } ∷ u) (leaves-yield h)
+leaves-yield (Formed.node {k = k} {r = r} e h j) = leaves-append (preorder k) (preorder r) ∙ rw (leaves-yield h, leaves-yield j)
