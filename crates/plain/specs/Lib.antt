@@ -8,3 +8,4 @@ pub mod Viable
 pub mod Ends
 pub mod Tokens
 pub mod Parsing
+pub mod Machine
