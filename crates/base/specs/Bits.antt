@@ -2,7 +2,8 @@
 use Prim.Native.Nat.{ℕ, zero, suc, _+_, _*_, _-_, _/_, _%_, _^_, _≤_, _<_, max}
 use mathlib.Core.Path.{_≡_, refl, ap, sym, _∙_}
 use mathlib.Core.Logic.{_⊎_, inl, inr, by-cases}
-use native.Mathlib.Nat.{pow-suc, pow-succ', div-div-eq-div-mul}
+use lib.Pow.{pow-lt}
+use native.Mathlib.Nat.{mod-eq-of-lt, pow-suc, pow-succ', div-div-eq-div-mul}
 use native.Mathlib.Decide.{ℕ-discrete}
 use native.Mathlib.Omega.{arith}
 use lib.Bits.{bitOr, or-step, or-add-and, and-le-r}
@@ -75,6 +76,10 @@ one-has k = record { is = bit-pow-same k }
 
 pub has-one : (k i : ℕ) → Has (2 ^ k) i → i ≡ k
 has-one k i h = by-cases (ℕ-discrete i k) (λ e. e) (λ n. absurd (omega (arith, h .is, bit-pow-other i k n)))
+
+-- as `1 << i` is to the checker in k bits
+pub shift-one : (k i : ℕ) → i < k → 1 * 2 ^ i % 2 ^ k ≡ 2 ^ i
+shift-one k i l = mod-eq-of-lt (omega (arith, pow-lt {i = i} {j = k} l)) ∙ omega arith
 
 -- the lowest bit, and all but the lowest
 

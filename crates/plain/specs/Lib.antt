@@ -9,3 +9,4 @@ pub mod Ends
 pub mod Tokens
 pub mod Parsing
 pub mod Machine
+pub mod Outcome

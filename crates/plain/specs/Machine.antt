@@ -1,16 +1,22 @@
 -- The parse on bytes: the symbols that are left stand at the end of the work area, the next one first, and the nodes at its beginning. Each turn takes one symbol and writes one node.
-use Prim.Native.Nat.{ℕ, zero, suc, _+_, _-_, _*_, _^_, _≤_, _<_}
-use mathlib.Core.Path.{_≡_, refl, sym, ap, _∙_}
-use mathlib.Core.Logic.{by-cases}
+use Prim.Native.Nat.{ℕ, zero, suc, _+_, _-_, _*_, _%_, _^_, _≤_, _<_}
+use mathlib.Core.Path.{_≡_, refl, sym, ap, _∙_, subst}
+use mathlib.Core.Logic.{_⊎_, inl, inr, by-cases}
+use mathlib.Core.Bool.{false}
 use mathlib.Core.List.{List, [], _∷_, _++_}
 use lib.ListN.{length, getD, set, drop, length-append, length-drop, length-set, drop-of-length-le}
 use lib.Seq.{drop-cons, ext-getD, getD-drop, getD-set-same}
+use lib.Dec.{eqb}
+use lib.Bits.{bitOr, or-lt}
 use lib.Pow.{pow-lt}
+use borrow.Author.Tests.{eq-eqb, ne-eqb, eqb-true, eqb-false}
+use native.Mathlib.Nat.{pow-succ'}
+use native.Mathlib.Numerals.{add-one}
 use native.Mathlib.Decide.{decLt, ℕ-discrete}
 use native.Mathlib.Omega.{arith}
 use Rattle.base.specs.Bytes.{byteAt, get32, byte-out}
-use Rattle.base.specs.Bits.{Has, one-has, has-one}
-use Rattle.base.specs.Choose.{never}
+use Rattle.base.specs.Bits.{Has, none-has, one-has, has-one, or-has, has-or-left, has-or-right, shift-one}
+use Rattle.base.specs.Choose.{never, choose, choose-of}
 use Rattle.base.specs.Filled.{Filled}
 use Rattle.grammar.specs.Limits.{endMark, maxTerminals, columns}
 use Rattle.grammar.specs.Each.{Each, each-join}
@@ -48,6 +54,51 @@ pub record Lit (table : List ℕ) (R e : ℕ) : Type 0 where
   pub small : e < 2 ^ columns
   pub all : (c : ℕ) → c < columns → (byteAt table (R * columns + c) ≡ 0 → ⊥) → Has e c
   pub only : (c : ℕ) → Has e c → (c < columns) × (byteAt table (R * columns + c) ≡ 0 → ⊥)
+
+-- a set with c, if v is not 0
+unfoldable pub marked : ℕ → ℕ → ℕ → ℕ
+marked e c v = choose (eqb v 0) (λ _. e) (λ _. bitOr e (2 ^ c))
+
+pub marked-not : (e c v : ℕ) → v ≡ 0 → e ≡ marked e c v
+unfolding marked choose
+marked-not e c v q = rw (eq-eqb v 0 q)
+
+pub marked-in : (e c v : ℕ) → c < columns → (v ≡ 0 → ⊥) → bitOr e (1 * 2 ^ c % 2 ^ 32) ≡ marked e c v
+unfolding marked choose
+marked-in e c v l n = rw (ne-eqb v 0 n, shift-one columns c l)
+
+-- the first c columns of row R
+pub record LitTo (table : List ℕ) (R c e : ℕ) : Type 0 where
+  pub small : e < 2 ^ c
+  pub all : (i : ℕ) → i < c → (byteAt table (R * columns + i) ≡ 0 → ⊥) → Has e i
+  pub only : (i : ℕ) → Has e i → (i < c) × (byteAt table (R * columns + i) ≡ 0 → ⊥)
+
+pub lit-none : (table : List ℕ) (R : ℕ) → LitTo table R 0 0
+lit-none table R = record { small = omega arith; all = λ i l. absurd (omega arith); only = λ i h. absurd (none-has i h) }
+
+pub lit-more : (table : List ℕ) (R c e e' v : ℕ) → e' ≡ marked e c v → v ≡ byteAt table (R * columns + c) → LitTo table R c e → LitTo table R (c + 1) e'
+unfolding marked
+lit-more table R c e e' v q f h =
+    let double : 2 ^ (c + 1) ≡ 2 * 2 ^ c = rw (add-one c) (pow-succ' 2 c) in
+    subst (λ (x : ℕ). LitTo table R (c + 1) x) (sym q)
+    (choose-of (LitTo table R (c + 1)) (eqb v 0) _ _
+    (λ z. record {
+      small = omega (arith, h .small, double);
+      all = λ i l n. by-cases (ℕ-discrete i c) (λ j. absurd (n (rw j (sym f ∙ eqb-true v 0 z)))) (λ j. h .all i (omega arith) n);
+      only = λ i x. (omega (arith, h .only i x .0), h .only i x .1);
+    })
+    (λ z. record {
+      small = or-lt (c + 1) e (2 ^ c) (omega (arith, h .small, double)) (omega (arith, double, h .small));
+      all = λ i l n. by-cases (ℕ-discrete i c) (λ j. rw j (has-or-right e (2 ^ c) c (one-has c))) (λ j. has-or-left e (2 ^ c) i (h .all i (omega arith) n));
+      only = λ i x. pick i z (or-has e (2 ^ c) i x);
+    }))
+  where
+    pick : (i : ℕ) → eqb v 0 ≡ false → Has e i ⊎ Has (2 ^ c) i → (i < c + 1) × (byteAt table (R * columns + i) ≡ 0 → ⊥)
+    pick i z (inl x) = (omega (arith, h .only i x .0), h .only i x .1)
+    pick i z (inr x) = let j = has-one c i x in (omega (arith, j), λ u. eqb-false v 0 z (f ∙ rw j at u))
+
+pub lit-all : (table : List ℕ) (R c e : ℕ) → columns ≤ c → c ≤ columns → LitTo table R c e → Lit table R e
+lit-all table R c e l m h = let q : c ≡ columns = omega arith in let k = rw q at h in record { small = k .small; all = k .all; only = k .only }
 
 -- what stands while a parse runs: the grammar in the rows passes replies 1 to 3, the tables are its tables, and the bytes b are m good tokens
 pub record Ground (rows : List ℕ) (t n start count : ℕ) (table b : List ℕ) (m : ℕ) : Type 0 where

@@ -1,1 +1,91 @@
-// The plain parse so far is definitions and theorems; there is no code yet.
+// The plain parse: one loop over a stack in the lent work area, which writes the node list. Each turn takes one symbol off the stack and writes one node.
+ghost use mathlib.Core.Path.{_≡_};
+ghost use Prim.Native.Nat.{_+_, _-_, _*_, _<_, _≤_};
+ghost use lib.ListN.{length};
+ghost use Rattle.base.specs.Filled.{Filled};
+ghost use Rattle.grammar.specs.Limits.{maxBody, maxNonterminals, columns};
+ghost use Rattle.grammar.specs.Rows.{symbolAt, grammarIn};
+ghost use Rattle.trees.specs.Area.{maxSlots};
+ghost use Rattle.trees.specs.Coded.{nodeSize};
+ghost use Rattle.plain.specs.Machine.{Lit, marked as markedm, Ground, At};
+ghost use Rattle.plain.specs.Outcome.{Told, Ran, Turned};
+
+pub const TOKEN_SIZE: usize = 5;
+
+// How many tokens there are, or the first bad record.
+pub enum Tokens {
+    Good(usize),
+    Bad(usize),
+}
+
+// How a parse ends: accepted with so many nodes, a syntax error at a token with the expected set, or no room.
+pub enum Parsed {
+    Accepted(usize),
+    Syntax(usize, u32),
+    NoRoom,
+}
+
+// One symbol is taken off: the parse goes on at a place of the stack and a token, or it is over.
+pub enum Turn {
+    Go(usize, usize),
+    Over(Parsed),
+}
+
+// Whether the bytes are tokens of the kinds 1..t.
+pub fn read_tokens(tokens: &[u8], t: usize) -> Tokens
+    ensures { λ r. ⌜ Told t (now (tokens .entry)) r ⌝ }
+{
+    let count = tokens.len() / TOKEN_SIZE;
+    let mut i: usize = 0;
+    while i < count {
+        let kind = base::byte_at(tokens, TOKEN_SIZE * i);
+        if kind == 0 {
+            return Tokens::Bad(i);
+        }
+        if t < kind {
+            return Tokens::Bad(i);
+        }
+        i += 1;
+    }
+    if tokens.len() % TOKEN_SIZE == 0 {
+        return Tokens::Good(count);
+    }
+    Tokens::Bad(count)
+}
+
+// The body in row j, `len` symbols, from `at` on.
+fn push(work: &mut [u8], at: usize, rows: &[u8], j: usize, len: usize)
+    requires { ⌜ (at + len ≤ length (now work)) × (len ≤ maxBody) ⌝ }
+    ensures { λ _. ⌜ Filled (symbolAt (now (rows .entry)) j) at len (now (work .entry)) (now (work .exit)) ⌝ }
+{
+    let mut i: usize = 0;
+    while i < len {
+        work[at + i] = grammar::symbol_at(rows, j, i) as u8;
+        i += 1;
+    }
+}
+
+// The set with c, if v is not 0.
+fn marked(e: u32, c: usize, v: usize) -> u32
+    requires { ⌜ c < columns ⌝ }
+    ensures { λ r. ⌜ r ≡ markedm e c v ⌝ }
+{
+    if v == 0 {
+        return e;
+    }
+    e | (1 << c)
+}
+
+// The lookaheads with a prediction in a row of the tables, as bits.
+fn predicted(tables: &[u8], row: usize) -> u32
+    requires { ⌜ row < maxNonterminals ⌝ }
+    ensures { λ r. ⌜ Lit (now (tables .entry)) row r ⌝ }
+{
+    let mut e: u32 = 0;
+    let mut c: usize = 0;
+    while c < grammar::COLUMNS {
+        e = marked(e, c, base::byte_at(tables, row * grammar::COLUMNS + c));
+        c += 1;
+    }
+    e
+}

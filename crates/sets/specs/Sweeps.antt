@@ -6,10 +6,8 @@ use mathlib.Core.List.{List, _∷_}
 use lib.ListN.{length, getD, set, length-set}
 use lib.Seq.{set-getD}
 use lib.Bits.{bitOr}
-use lib.Pow.{pow-lt}
-use native.Mathlib.Nat.{mod-eq-of-lt}
 use native.Mathlib.Omega.{arith}
-use Rattle.base.specs.Bits.{or-grows}
+use Rattle.base.specs.Bits.{or-grows, shift-one}
 use Rattle.base.specs.Blocks.{zeros}
 use Rattle.grammar.specs.Rows.{leftAt, lengthAt, symbolAt, symbolsFrom}
 use Rattle.sets.specs.Growth.{total, total-set}
@@ -143,7 +141,7 @@ module _ (s₀ : List ℕ) where
   unfolding tokens
   tokens-more s s' s'' a l e u v =
       let z : a + 1 ≡ suc a = omega arith in
-      let w : 1 * 2 ^ (a + 1) % 2 ^ wordBits ≡ 2 ^ (a + 1) = mod-eq-of-lt (omega (arith, pow-lt {i = a + 1} {j = wordBits} l)) ∙ omega arith in
+      let w : 1 * 2 ^ (a + 1) % 2 ^ wordBits ≡ 2 ^ (a + 1) = shift-one wordBits (a + 1) l in
       v ∙ ap (λ (k : List ℕ). raised k (marks + (a + 1)) 1) (u ∙ ap (raised s (a + 1)) w ∙ ap (λ (k : List ℕ). raised k (a + 1) (2 ^ (a + 1))) e)
       ∙ ap (λ (i : ℕ). raised (raised (tokens a s₀) i (2 ^ i)) (marks + i) 1) z ∙ sym (ap (λ (i : ℕ). tokens i s₀) z)
 

@@ -7,11 +7,10 @@ use mathlib.Core.List.{List, [], _∷_, _++_, append-nil}
 use lib.ListN.{length, getD, take, drop, length-append, length-drop, drop-of-length-le, List·getD-append}
 use lib.Seq.{take-at, drop-at, take-length}
 use lib.Bits.{bitOr}
-use lib.Pow.{pow-lt}
 use borrow.Author.Tests.{le-leb, lt-leb, eq-eqb, ne-eqb}
-use native.Mathlib.Nat.{mod-eq-of-lt}
 use native.Mathlib.Decide.{ℕ-discrete}
 use native.Mathlib.Omega.{arith}
+use Rattle.base.specs.Bits.{shift-one}
 use Rattle.base.specs.Choose.{choose}
 use Rattle.base.specs.Blocks.{zeros, byte-zeros, length-zeros, copied}
 use Rattle.grammar.specs.Limits.{columns}
@@ -74,9 +73,6 @@ pub ruleset stepping = (step-end, step-lead, step-none)
 
 -- ---- down a stem
 
-pub shift-one : (x : ℕ) → x < symbolSpace → 1 * 2 ^ x % 2 ^ 64 ≡ 2 ^ x
-shift-one x l = mod-eq-of-lt (omega (arith, pow-lt {i = x} {j = 64} l)) ∙ omega arith
-
 -- at a terminal there is no step: the model takes row 0 there
 pub next-low : (steps : List ℕ) (t a x v : ℕ) → x ≤ t → v ≡ getD steps a 0 → v % symbolSpace ≡ next steps t a x
 unfolding next
@@ -90,7 +86,7 @@ module _ (steps : List ℕ) (t a : ℕ) where
   pub stem-last : (k x acc X : ℕ) → 0 < k → x < symbolSpace → x ≤ t → X ≡ stemBits steps t a k x acc → bitOr acc (1 * 2 ^ x % 2 ^ 64) ≡ X
   unfolding stemBits choose
   stem-last zero x acc X w l m h = absurd (omega arith)
-  stem-last (suc k) x acc X w l m h = ap (bitOr acc) (shift-one x l) ∙ sym (rw (le-leb x t m) at h)
+  stem-last (suc k) x acc X w l m h = ap (bitOr acc) (shift-one symbolSpace x l) ∙ sym (rw (le-leb x t m) at h)
 
   pub stem-on : (k x y acc X : ℕ) → 0 < k → x < symbolSpace → t < x → y ≡ next steps t a x → X ≡ stemBits steps t a k x acc
       → X ≡ stemBits steps t a (k - 1) y (bitOr acc (1 * 2 ^ x % 2 ^ 64))
@@ -98,7 +94,7 @@ module _ (steps : List ℕ) (t a : ℕ) where
   stem-on zero x y acc X w l m f h = absurd (omega arith)
   stem-on (suc k) x y acc X w l m f h =
       let q : suc k - 1 ≡ k = omega arith in
-      rw (q, f, shift-one x l) (rw (lt-leb x t m) at h)
+      rw (q, f, shift-one symbolSpace x l) (rw (lt-leb x t m) at h)
 
   pub stem-done : (k x acc X : ℕ) → k ≤ 0 → X ≡ stemBits steps t a k x acc → acc ≡ X
   unfolding stemBits

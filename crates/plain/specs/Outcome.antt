@@ -1,0 +1,66 @@
+-- What the functions of this crate promise, for each case of their answers.
+use Prim.Native.Nat.{ℕ, _+_, _-_, _*_, _/_, _%_, _≤_, _<_}
+use mathlib.Core.Path.{_≡_}
+use mathlib.Core.Logic.{inl, inr}
+use mathlib.Core.List.{List}
+use lib.ListN.{length}
+use native.Mathlib.Omega.{arith}
+use Rattle.base.specs.Bytes.{byteAt, Bytes}
+use Rattle.grammar.specs.Grammar.{Grammar}
+use Rattle.plain.specs.Plain.{syntax, noRoom, Parses}
+use Rattle.plain.specs.Tokens.{tokenSize, tokensFrom, Sentence, Kinds, BadToken, sentence-of, bad-token}
+use Rattle.plain.specs.Machine.{At, Done}
+use Rattle.plain.specs.declared.Tokens.{Tokens}
+use Rattle.plain.specs.declared.Tokens.the-variants.{Good, Bad}
+use Rattle.plain.specs.declared.Parsed.{Parsed}
+use Rattle.plain.specs.declared.Parsed.the-variants.{Accepted, Syntax, NoRoom}
+use Rattle.plain.specs.declared.Turn.{Turn}
+use Rattle.plain.specs.declared.Turn.the-variants.{Go, Over}
+
+-- m tokens of the kinds 1..t
+pub record Counted (t : ℕ) (b : List ℕ) (m : ℕ) : Type 0 where
+  pub long : length b ≡ tokenSize * m
+  pub kinds : Kinds t b m
+  pub sentence : Sentence t b (tokensFrom b m 0)
+
+abbrev pub Told : ℕ → List ℕ → Tokens → Type 0
+Told t b (Good m) = Counted t b m
+Told t b (Bad k) = BadToken t b k
+
+-- how a parse ended, with the nodes in w
+abbrev pub Ran : Grammar → ℕ → List ℕ → ℕ → List ℕ → Parsed → Type 0
+Ran G S b m w (Accepted o) = Done G S b m o w
+Ran G S b m w (Syntax k e) = Parses G S (tokensFrom b m 0) (syntax k e)
+Ran G S b m w NoRoom = Parses G S (tokensFrom b m 0) noRoom
+
+-- the parse goes on
+pub record Going (G : Grammar) (S : ℕ) (b : List ℕ) (m : ℕ) (w w' : List ℕ) (o p k : ℕ) : Type 0 where
+  pub long : length w' ≡ length w
+  pub low : p ≤ length w'
+  pub room : o + (length w' - p) ≤ S
+  pub matched : k ≤ m
+  pub at : At G S b m w' p o k
+
+-- after one more node
+abbrev pub Turned : Grammar → ℕ → List ℕ → ℕ → List ℕ → List ℕ → ℕ → Turn → Type 0
+Turned G S b m w w' o (Go p k) = Going G S b m w w' (o + 1) p k
+Turned G S b m w w' o (Over v) = Ran G S b m w' v
+
+-- ---- the ways through the tokens
+
+module _ (t : ℕ) (b : List ℕ) (f : Bytes b) (count i : ℕ) (e : count ≡ length b / tokenSize) (h : Kinds t b i) where
+  pub told-zero : (a : ℕ) → i < count → a ≡ byteAt b (tokenSize * i) → a ≡ 0 → BadToken t b i
+  told-zero a l q z = bad-token t b i f (omega arith) h (inr (λ w. omega (arith, w .0, q, z)))
+
+  pub told-high : (a : ℕ) → i < count → a ≡ byteAt b (tokenSize * i) → t < a → BadToken t b i
+  told-high a l q z = bad-token t b i f (omega arith) h (inr (λ w. omega (arith, w .1, q, z)))
+
+  pub told-cut : count ≤ i → i ≤ count → (length b % tokenSize ≡ 0 → ⊥) → BadToken t b count
+  told-cut l m n = let q : i ≡ count = omega arith in bad-token t b count f (omega arith) (rw q at h) (inl (omega arith))
+
+  pub told-good : count ≤ i → i ≤ count → length b % tokenSize ≡ 0 → Counted t b count
+  told-good l m n =
+      let q : i ≡ count = omega arith in
+      let long : length b ≡ tokenSize * count = omega arith in
+      let k : Kinds t b count = rw q at h in
+      record { long = long; kinds = k; sentence = sentence-of t b count f long k }
