@@ -18,7 +18,7 @@ use Rattle.base.specs.Bytes.{byteAt, get32, byte-out}
 use Rattle.base.specs.Bits.{Has, none-has, one-has, has-one, or-has, has-or-left, has-or-right, shift-one}
 use Rattle.base.specs.Choose.{never, choose, choose-of}
 use Rattle.base.specs.Filled.{Filled}
-use Rattle.grammar.specs.Limits.{endMark, maxTerminals, columns}
+use Rattle.grammar.specs.Limits.{endMark, maxTerminals, maxNonterminals, columns}
 use Rattle.grammar.specs.Each.{Each, each-join}
 use Rattle.grammar.specs.Grammar.{Grammar, Rule, Terminal, SymbolOf}
 use Rattle.grammar.specs.Rules.{rule-allowed, rule-left}
@@ -114,6 +114,14 @@ pub record At (G : Grammar) (S : ℕ) (b : List ℕ) (m : ℕ) (w : List ℕ) (p
   -- "Parse puts nodes in slots 1, 2, .. in preorder"
   pub numbered : Numbered 1 (nodesFrom w o 0)
 
+-- the parse goes on
+pub record Going (G : Grammar) (S : ℕ) (b : List ℕ) (m : ℕ) (w w' : List ℕ) (o p k : ℕ) : Type 0 where
+  pub long : length w' ≡ length w
+  pub low : p ≤ length w'
+  pub room : o + (length w' - p) ≤ S
+  pub matched : k ≤ m
+  pub at : At G S b m w' p o k
+
 -- an accepted sentence: o nodes are its derivation, in preorder, in slots 1, 2, ..
 pub record Done (G : Grammar) (S : ℕ) (b : List ℕ) (m o : ℕ) (w : List ℕ) : Type 0 where
   pub parses : Parses G S (tokensFrom b m 0) (accepted o)
@@ -149,7 +157,7 @@ module _ (rows : List ℕ) (t n start count : ℕ) (table b : List ℕ) (m : ℕ
   abbrev G : Grammar
   G = grammarIn rows t n start count
 
-  few : t ≤ maxTerminals
+  pub few : t ≤ maxTerminals
   unfolding grammarIn
   few = g .prepared .formed .head .terminals .1
 
@@ -229,9 +237,10 @@ module _ (rows : List ℕ) (t n start count : ℕ) (table b : List ℕ) (m : ℕ
         no-predicted (by-follow r f v) = no-rule (g .prepared) terminal r
 
         -- it is the next token
-        pub at-leaf : M ≡ a → (w' : List ℕ) → Put w o (nodeOf (o + 1) M 0 (get32 b (tokenSize * k + 1))) w' → (k < m) × At G S b m w' (p + 1) (o + 1) (k + 1)
+        pub at-leaf : M ≡ a → (w' : List ℕ) (tag : ℕ) → tag ≡ get32 b (tokenSize * k + 1) → Put w o (nodeOf (o + 1) M 0 tag) w' → Going G S b m w w' (o + 1) (p + 1) (k + 1)
         unfolding tokenAt
-        at-leaf e w' u =
+        at-leaf e w' tag f u₀ =
+            let u : Put w o (nodeOf (o + 1) M 0 (get32 b (tokenSize * k + 1))) w' = rw f at u₀ in
             let l : k < m = by-cases (ℕ-discrete k m) (λ z. absurd (let q = byte-out b (tokenSize * k) (omega (arith, g .long)) in omega (arith, q, top-symbol .0))) (λ z. omega arith) in
             let q : m - k ≡ suc (m - (k + 1)) = omega arith in
             let c : o + (length w - p) ≡ o + 1 + (length w' - (p + 1)) = omega (arith, u .long) in
@@ -240,22 +249,26 @@ module _ (rows : List ℕ) (t n start count : ℕ) (table b : List ℕ) (m : ℕ
             let x : Parsing G S (tokensFrom b m 0) (M ∷ drop (p + 1) w) (tokenAt b k ∷ tokensFrom b (m - (k + 1)) (k + 1)) (o + (length w - p)) k (nodesFrom w o 0) = rw q at here in
             let y : Parsing G S (tokensFrom b m 0) (drop (p + 1) w) (tokensFrom b (m - (k + 1)) (k + 1)) (o + (length w - p)) (suc k) (nodesFrom w o 0 ++ (nodeOf (o + 1) M 0 (get32 b (tokenSize * k + 1)) ∷ [])) =
             parsing-match {G = G} (o + 1) M (tokenAt b k) terminal (e ∙ ea) x
-            in (
-              l,
-              record {
+            in
+            record {
+              long = u .long;
+              low = omega (arith, u .long);
+              room = omega (arith, u .long);
+              matched = omega arith;
+              at = record {
                 parsing = rw (d, put-last u, ← c) (rw z at y);
                 symbols = rw d others;
                 numbered = rw (put-last u) (numbered-last (nodeOf (o + 1) M 0 (get32 b (tokenSize * k + 1))) (omega (arith, length-nodes w o 0)) (h .numbered));
-              },
-            )
+              };
+            }
 
         -- it is not
-        pub at-odd : (M ≡ a → ⊥) → Parses G S (tokensFrom b m 0) (syntax k (2 ^ M))
-        at-odd ne = here .run (syntax k (2 ^ M)) (stuck (λ x. odd x refl refl) (record {
+        pub at-odd : (M ≡ a → ⊥) → Parses G S (tokensFrom b m 0) (syntax k (1 * 2 ^ M % 2 ^ columns))
+        at-odd ne = rw (shift-one columns M (omega (arith, lM, few))) (here .run (syntax k (2 ^ M)) (stuck (λ x. odd x refl refl) (record {
           small = pow-lt {i = M} {j = columns} (omega (arith, lM, few));
           all = λ c x. rw (only x refl) (one-has M);
           only = λ c x. rw (has-one M c x) (itself terminal);
-        }))
+        })))
           where
             only : {xs : List ℕ} {c : ℕ} → Expects G xs c → xs ≡ M ∷ drop (p + 1) w → c ≡ M
             only (prediction {M = N} x) e = let z : N ≡ M = cc in absurd (no-predicted (rw z at x))
@@ -268,12 +281,16 @@ module _ (rows : List ℕ) (t n start count : ℕ) (table b : List ℕ) (m : ℕ
       -- ---- a nonterminal on top
 
       module _ (lM : t < M) (q : ℕ) (eq : q ≡ byteAt table ((M - t - 1) * columns + a)) where
+        pub low-row : M - t - 1 < maxNonterminals
+        unfolding grammarIn
+        low-row = omega (arith, top-symbol .1, g .prepared .formed .head .nonterminals .1)
+
         -- what the tables have for M
         cell : (c : ℕ) → c < columns → Prediction G M c (byteAt table ((M - t - 1) * columns + c))
         unfolding grammarIn
         cell c l =
             let x : t + 1 + (M - t - 1) ≡ M = omega arith in
-            rw x at (g .tables .prediction (M - t - 1) c (omega (arith, top-symbol .1, g .prepared .formed .head .nonterminals .1)) l)
+            rw x at (g .tables .prediction (M - t - 1) c low-row l)
 
         own : Prediction G M (ahead (tokensFrom b (m - k) k)) q
         own = rw (← seen, eq) (cell a (rw ea (ahead-small k lk)))
@@ -332,22 +349,29 @@ module _ (rows : List ℕ) (t n start count : ℕ) (table b : List ℕ) (m : ℕ
           at-crowded l = here .run noRoom (crowded predicted (row-of .1) (rw (length-symbols rows (q - 1) (lengthAt rows (q - 1)) 0) l))
 
           -- or with it
-          pub at-inner : o + (length w - p) + lengthAt rows (q - 1) ≤ S → (w₁ w' : List ℕ) (d : ℕ) → d + lengthAt rows (q - 1) ≡ p + 1 → Filled (symbolAt rows (q - 1)) d (lengthAt rows (q - 1)) w w₁
-              → Put w₁ o (nodeOf (o + 1) M q 0) w' → At G S b m w' d (o + 1) k
-          at-inner l w₁ w' d ed u v =
+          pub at-inner : (len : ℕ) → len ≡ lengthAt rows (q - 1) → o + (length w - p) + len ≤ S → (w₁ w' : List ℕ) (d : ℕ) → d + len ≡ p + 1 → Filled (symbolAt rows (q - 1)) d len w w₁
+              → Put w₁ o (nodeOf (o + 1) M q 0) w' → Going G S b m w w' (o + 1) d k
+          at-inner len el l w₁ w' d ed u₀ v =
+              let u : Filled (symbolAt rows (q - 1)) d (lengthAt rows (q - 1)) w w₁ = rw el at u₀ in
               let γ = bodyAt rows (q - 1) in
               let lγ = length-symbols rows (q - 1) (lengthAt rows (q - 1)) 0 in
               let lw : length w' ≡ length w = v .long ∙ u .long in
-              let st : drop d w' ≡ γ ++ drop (p + 1) w = pushed rows w w₁ w' (q - 1) d (p + 1) (nodeSize * o + nodeSize) ed (omega arith) (omega arith) u (v .long) (v .behind) in
+              let st : drop d w' ≡ γ ++ drop (p + 1) w = pushed rows w w₁ w' (q - 1) d (p + 1) (nodeSize * o + nodeSize) (omega arith) (omega arith) (omega arith) u (v .long) (v .behind) in
               let ns : nodesFrom w₁ o 0 ≡ nodesFrom w o 0 = nodes-kept w w₁ o 0 (λ j x y. u .before j (omega arith)) in
               let c : o + (length w - p) + length γ ≡ o + 1 + (length w' - d) = omega (arith, lw, lγ) in
               let y : Parsing G S (tokensFrom b m 0) (γ ++ drop (p + 1) w) (tokensFrom b (m - k) k) (o + (length w - p) + length γ) k (nodesFrom w o 0 ++ (nodeOf (o + 1) M q 0 ∷ [])) =
               parsing-expand {G = G} (o + 1) M q γ predicted (row-of .1) (omega (arith, nz)) (omega (arith, lγ)) here
               in
               record {
-                parsing = rw (st, put-last v, ns, ← c) y;
-                symbols = rw st (each-join (rule-allowed (g .prepared .formed) (row-of .1) .symbols) others);
-                numbered = rw (put-last v, ns) (numbered-last (nodeOf (o + 1) M q 0) (omega (arith, length-nodes w o 0)) (h .numbered));
+                long = lw;
+                low = omega (arith, lw);
+                room = omega (arith, lw);
+                matched = lk;
+                at = record {
+                  parsing = rw (st, put-last v, ns, ← c) y;
+                  symbols = rw st (each-join (rule-allowed (g .prepared .formed) (row-of .1) .symbols) others);
+                  numbered = rw (put-last v, ns) (numbered-last (nodeOf (o + 1) M q 0) (omega (arith, length-nodes w o 0)) (h .numbered));
+                };
               }
 
     -- ---- no symbol left

@@ -9,7 +9,7 @@ use Rattle.base.specs.Bytes.{byteAt, Bytes}
 use Rattle.grammar.specs.Grammar.{Grammar}
 use Rattle.plain.specs.Plain.{syntax, noRoom, Parses}
 use Rattle.plain.specs.Tokens.{tokenSize, tokensFrom, Sentence, Kinds, BadToken, sentence-of, bad-token}
-use Rattle.plain.specs.Machine.{At, Done}
+use Rattle.plain.specs.Machine.{Done, Going}
 use Rattle.plain.specs.declared.Tokens.{Tokens}
 use Rattle.plain.specs.declared.Tokens.the-variants.{Good, Bad}
 use Rattle.plain.specs.declared.Parsed.{Parsed}
@@ -32,14 +32,6 @@ abbrev pub Ran : Grammar → ℕ → List ℕ → ℕ → List ℕ → Parsed �
 Ran G S b m w (Accepted o) = Done G S b m o w
 Ran G S b m w (Syntax k e) = Parses G S (tokensFrom b m 0) (syntax k e)
 Ran G S b m w NoRoom = Parses G S (tokensFrom b m 0) noRoom
-
--- the parse goes on
-pub record Going (G : Grammar) (S : ℕ) (b : List ℕ) (m : ℕ) (w w' : List ℕ) (o p k : ℕ) : Type 0 where
-  pub long : length w' ≡ length w
-  pub low : p ≤ length w'
-  pub room : o + (length w' - p) ≤ S
-  pub matched : k ≤ m
-  pub at : At G S b m w' p o k
 
 -- after one more node
 abbrev pub Turned : Grammar → ℕ → List ℕ → ℕ → List ℕ → List ℕ → ℕ → Turn → Type 0

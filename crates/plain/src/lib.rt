@@ -89,3 +89,53 @@ fn predicted(tables: &[u8], row: usize) -> u32
     }
     e
 }
+
+// One turn: o nodes are written, the symbols from p on are left, k of m tokens are matched.
+fn step(
+    tokens: &[u8],
+    m: usize,
+    tables: &[u8],
+    rows: &[u8],
+    t: usize,
+    n: usize,
+    start: usize,
+    count: usize,
+    slots: usize,
+    work: &mut [u8],
+    o: usize,
+    p: usize,
+    k: usize,
+) -> Turn
+    requires { ⌜ Ground (now rows) t n start count (now tables) (now tokens) m × (slots ≤ maxSlots) × (nodeSize * slots + slots ≤ length (now work)) × (o < slots) × (p ≤ length (now work)) × (o + (length (now work) - p) ≤ slots) × (k ≤ m) × At (grammarIn (now rows) t n start count) slots (now tokens) m (now work) p o k ⌝ }
+    ensures { λ r. ⌜ Turned (grammarIn (now (rows .entry)) t n start count) slots (now (tokens .entry)) m (now (work .entry)) (now (work .exit)) o r ⌝ }
+{
+    let end = work.len();
+    if end <= p {
+        if k == m {
+            return Turn::Over(Parsed::Accepted(o));
+        }
+        return Turn::Over(Parsed::Syntax(k, 1));
+    }
+    let x = base::byte_at(work, p);
+    let a = base::byte_at(tokens, TOKEN_SIZE * k);
+    if x <= t {
+        if x == a {
+            let tag = base::get32(tokens, TOKEN_SIZE * k + 1);
+            trees::put_node(work, o, o + 1, x, 0, tag);
+            return Turn::Go(p + 1, k + 1);
+        }
+        return Turn::Over(Parsed::Syntax(k, 1 << x));
+    }
+    let q = base::byte_at(tables, (x - t - 1) * grammar::COLUMNS + a);
+    if q == 0 {
+        return Turn::Over(Parsed::Syntax(k, predicted(tables, x - t - 1)));
+    }
+    let len = grammar::length_at(rows, q - 1);
+    if slots < o + (end - p) + len {
+        return Turn::Over(Parsed::NoRoom);
+    }
+    let top = p + 1 - len;
+    push(work, top, rows, q - 1, len);
+    trees::put_node(work, o, o + 1, x, q, 0);
+    Turn::Go(top, k)
+}

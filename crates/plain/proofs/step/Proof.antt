@@ -1,0 +1,181 @@
+use Rattle.plain.specs.Machine.{few, at-end, at-rest, at-leaf, at-odd, at-none, at-crowded, at-inner, low-row}
+use borrow.Author.Needs.{needs}
+use Rattle.plain.proofs.step.Statement.{statement}
+use Rattle.plain.proofs.step.Tie as tie
+
+returns : tie.Need-returns
+returns c = at-end _ _ _ _ _ _ _ _ (c .before .before .before .before .before .before .pre .0) _ _ _ _ _ (search needs) (c .before .before .before .before .before .before .pre .7) (search needs)
+
+returns-2 : tie.Need-returns-2
+returns-2 c = at-rest _ _ _ _ _ _ _ _ (c .before .before .before .before .before .before .pre .0) _ _ _ _ _ (search needs) (c .before .before .before .before .before .before .pre .7) (search needs)
+
+byte-at-requires : tie.Need-byte-at-requires
+byte-at-requires c κs = search needs
+
+mul-byte-at : tie.Need-mul-byte-at
+mul-byte-at c = search needs
+
+byte-at-requires-2 : tie.Need-byte-at-requires-2
+byte-at-requires-2 c κs = search needs
+
+mul-get32 : tie.Need-mul-get32
+mul-get32 c = search needs
+
+add-get32 : tie.Need-add-get32
+add-get32 c = search needs
+
+get32-requires : tie.Need-get32-requires
+get32-requires c κs = search needs
+
+add-put-node : tie.Need-add-put-node
+add-put-node c = search needs
+
+put-node-requires : tie.Need-put-node-requires
+put-node-requires c κs = search needs
+
+add-t30 : tie.Need-add-t30
+add-t30 c = search needs
+
+add-t29 : tie.Need-add-t29
+add-t29 c = search needs
+
+same-length : tie.Need-same-length
+same-length c = search needs
+
+returns-3 : tie.Need-returns-3
+returns-3 c = at-leaf _ _ _ _ _ _ _ _ (c .before .before .before .before .before .before .before .before .before .before .before .before .before .before .before .pre .0) _ _ _ _ _ (search needs) (search needs) (search needs) (search needs) (c .before .before .before .before .before .before .before .before .before .before .before .before .before .before .before .pre .7) _ _ (c .before .before .before .before .before .before .before .before .byte-at .ensures .0) (c .before .before .before .before .before .before .before .byte-at2 .ensures .0) (search needs) (search needs) _ _ (c .before .before .before .before .get32 .ensures .0) (c .before .before .put-node .ensures)
+
+cast-t34 : tie.Need-cast-t34
+cast-t34 c = search needs
+
+shl-t35 : tie.Need-shl-t35
+shl-t35 c = let h = few _ _ _ _ _ _ _ _ (c .before .before .before .before .before .before .before .before .before .before .pre .0) in search needs
+
+same-length-2 : tie.Need-same-length-2
+same-length-2 c = search needs
+
+returns-4 : tie.Need-returns-4
+returns-4 c = at-odd _ _ _ _ _ _ _ _ (c .before .before .before .before .before .before .before .before .before .before .pre .0) _ _ _ _ _ (search needs) (search needs) (search needs) (search needs) (c .before .before .before .before .before .before .before .before .before .before .pre .7) _ _ (c .before .before .before .byte-at .ensures .0) (c .before .before .byte-at2 .ensures .0) (search needs) (search needs)
+
+sub-byte-at : tie.Need-sub-byte-at
+sub-byte-at c = search needs
+
+sub-byte-at-2 : tie.Need-sub-byte-at-2
+sub-byte-at-2 c = search needs
+
+mul-byte-at-2 : tie.Need-mul-byte-at-2
+mul-byte-at-2 c = search needs
+
+add-byte-at : tie.Need-add-byte-at
+add-byte-at c = search needs
+
+byte-at-requires-3 : tie.Need-byte-at-requires-3
+byte-at-requires-3 c κs = search needs
+
+sub-predicted : tie.Need-sub-predicted
+sub-predicted c = search needs
+
+sub-predicted-2 : tie.Need-sub-predicted-2
+sub-predicted-2 c = search needs
+
+predicted-requires : tie.Need-predicted-requires
+predicted-requires c κs = low-row _ _ _ _ _ _ _ _ (c .before .before .before .before .before .before .before .before .before .before .before .pre .0) _ _ _ _ _ (search needs) (search needs) (search needs) (search needs) (c .before .before .before .before .before .before .before .before .before .before .before .pre .7) _ _ (c .before .before .before .before .byte-at .ensures .0) (c .before .before .before .byte-at2 .ensures .0) (search needs) _ (c .before .byte-at3 .ensures .0)
+
+same-length-3 : tie.Need-same-length-3
+same-length-3 c = search needs
+
+returns-5 : tie.Need-returns-5
+returns-5 c = at-none _ _ _ _ _ _ _ _ (c .before .before .before .before .before .before .before .before .before .before .before .before .pre .0) _ _ _ _ _ (search needs) (search needs) (search needs) (search needs) (c .before .before .before .before .before .before .before .before .before .before .before .before .pre .7) _ _ (c .before .before .before .before .before .byte-at .ensures .0) (c .before .before .before .before .byte-at2 .ensures .0) (search needs) _ (c .before .before .byte-at3 .ensures .0) (search needs) _ (c .predicted .ensures)
+
+sub-length-at : tie.Need-sub-length-at
+sub-length-at c = search needs
+
+length-at-requires : tie.Need-length-at-requires
+length-at-requires c κs = search needs
+
+sub-if6 : tie.Need-sub-if6
+sub-if6 c = search needs
+
+add-if6 : tie.Need-add-if6
+add-if6 c = search needs
+
+add-if6-2 : tie.Need-add-if6-2
+add-if6-2 c = search needs
+
+same-length-4 : tie.Need-same-length-4
+same-length-4 c = search needs
+
+returns-6 : tie.Need-returns-6
+returns-6 c = at-crowded _ _ _ _ _ _ _ _ (c .before .before .before .before .before .before .before .before .before .before .before .before .before .pre .0) _ _ _ _ _ (search needs) (search needs) (search needs) (search needs) (c .before .before .before .before .before .before .before .before .before .before .before .before .before .pre .7) _ _ (c .before .before .before .before .before .before .byte-at .ensures .0) (c .before .before .before .before .before .byte-at2 .ensures .0) (search needs) _ (c .before .before .before .byte-at3 .ensures .0) (search needs) (search needs)
+
+add-top : tie.Need-add-top
+add-top c = search needs
+
+sub-top : tie.Need-sub-top
+sub-top c = search needs
+
+sub-push : tie.Need-sub-push
+sub-push c = search needs
+
+push-requires : tie.Need-push-requires
+push-requires c κs = search needs
+
+add-put-node-2 : tie.Need-add-put-node-2
+add-put-node-2 c = search needs
+
+put-node-requires-2 : tie.Need-put-node-requires-2
+put-node-requires-2 c κs = search needs
+
+same-length-5 : tie.Need-same-length-5
+same-length-5 c = search needs
+
+returns-7 : tie.Need-returns-7
+returns-7 c = at-inner _ _ _ _ _ _ _ _ (c .before .before .before .before .before .before .before .before .before .before .before .before .before .before .before .before .before .before .before .before .before .pre .0) _ _ _ _ _ (search needs) (search needs) (search needs) (search needs) (c .before .before .before .before .before .before .before .before .before .before .before .before .before .before .before .before .before .before .before .before .before .pre .7) _ _ (c .before .before .before .before .before .before .before .before .before .before .before .before .before .before .byte-at .ensures .0) (c .before .before .before .before .before .before .before .before .before .before .before .before .before .byte-at2 .ensures .0) (search needs) _ (c .before .before .before .before .before .before .before .before .before .before .before .byte-at3 .ensures .0) (search needs) _ (c .before .before .before .before .before .before .before .before .before .length-at .ensures .0) (search needs) _ _ _ (search needs) (c .before .before .before .before .before .before .push .ensures) (c .before .before .put-node2 .ensures)
+
+pub step-spec : {M : Type 1} → statement M
+step-spec =
+    tie.close
+    (tie.spec
+    returns
+    returns-2
+    byte-at-requires
+    mul-byte-at
+    byte-at-requires-2
+    mul-get32
+    add-get32
+    get32-requires
+    add-put-node
+    put-node-requires
+    add-t30
+    add-t29
+    same-length
+    returns-3
+    cast-t34
+    shl-t35
+    same-length-2
+    returns-4
+    sub-byte-at
+    sub-byte-at-2
+    mul-byte-at-2
+    add-byte-at
+    byte-at-requires-3
+    sub-predicted
+    sub-predicted-2
+    predicted-requires
+    same-length-3
+    returns-5
+    sub-length-at
+    length-at-requires
+    sub-if6
+    add-if6
+    add-if6-2
+    same-length-4
+    returns-6
+    add-top
+    sub-top
+    sub-push
+    push-requires
+    add-put-node-2
+    put-node-requires-2
+    same-length-5
+    returns-7)
