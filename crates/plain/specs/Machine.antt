@@ -100,6 +100,11 @@ lit-more table R c e e' v q f h =
 pub lit-all : (table : List ℕ) (R c e : ℕ) → columns ≤ c → c ≤ columns → LitTo table R c e → Lit table R e
 lit-all table R c e l m h = let q : c ≡ columns = omega arith in let k = rw q at h in record { small = k .small; all = k .all; only = k .only }
 
+-- w' is w with the symbol x at its end
+pub record Begun (w w' : List ℕ) (p x : ℕ) : Type 0 where
+  pub is : w' ≡ set w p x
+  pub long : p + 1 ≡ length w
+
 -- what stands while a parse runs: the grammar in the rows passes replies 1 to 3, the tables are its tables, and the bytes b are m good tokens
 pub record Ground (rows : List ℕ) (t n start count : ℕ) (table b : List ℕ) (m : ℕ) : Type 0 where
   pub prepared : Prepared (grammarIn rows t n start count)
@@ -161,6 +166,10 @@ module _ (rows : List ℕ) (t n start count : ℕ) (table b : List ℕ) (m : ℕ
   unfolding grammarIn
   few = g .prepared .formed .head .terminals .1
 
+  pub start-small : start < 256
+  unfolding grammarIn
+  start-small = omega (arith, few, g .prepared .formed .head .nonterminals .1, g .prepared .formed .head .start .1)
+
   -- the lookahead is read from the bytes
   ahead-at : (k : ℕ) → k ≤ m → byteAt b (tokenSize * k) ≡ ahead (tokensFrom b (m - k) k)
   unfolding tokenAt
@@ -184,14 +193,13 @@ module _ (rows : List ℕ) (t n start count : ℕ) (table b : List ℕ) (m : ℕ
   small-ahead x = predictor-small (g .prepared .formed .head .terminals .1) x
 
   module _ (S : ℕ) where
-    pub at-start : (w : List ℕ) (p : ℕ) → p + 1 ≡ length w → At G S b m (set w p start) p 0 0
+    pub at-start : (w w' : List ℕ) (p : ℕ) → Begun w w' p start → At G S b m w' p 0 0
     unfolding grammarIn
-    at-start w p l =
-        let e : drop p (set w p start) ≡ start ∷ [] =
-        drop-cons (set w p start) p 0 (simp length-set (omega arith))
-        ∙ rw (getD-set-same w p start 0 (omega arith), drop-of-length-le (set w p start) {i = suc p} (simp length-set (omega arith)))
-        in
-        let q : 0 + (length (set w p start) - p) ≡ 1 = omega (arith, length-set w p start) in
+    at-start w w' p u =
+        let l : p + 1 ≡ length w' = u .long ∙ sym (ap length (u .is) ∙ length-set w p start) in
+        let x : byteAt w' p ≡ start = ap (λ (v : List ℕ). byteAt v p) (u .is) ∙ getD-set-same w p start 0 (omega (arith, u .long)) in
+        let e : drop p w' ≡ start ∷ [] = drop-cons w' p 0 (omega arith) ∙ rw (x, drop-of-length-le w' {i = suc p} (omega arith)) in
+        let q : 0 + (length w' - p) ≡ 1 = omega arith in
         let z : m - 0 ≡ m = omega arith in
         let x = g .prepared .formed .head .start in
         let y : SymbolOf t n start = (omega (arith, x .0), x .1) in

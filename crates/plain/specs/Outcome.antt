@@ -1,6 +1,6 @@
 -- What the functions of this crate promise, for each case of their answers.
 use Prim.Native.Nat.{ℕ, _+_, _-_, _*_, _/_, _%_, _≤_, _<_}
-use mathlib.Core.Path.{_≡_}
+use mathlib.Core.Path.{_≡_, subst}
 use mathlib.Core.Logic.{inl, inr}
 use mathlib.Core.List.{List}
 use lib.ListN.{length}
@@ -9,7 +9,7 @@ use Rattle.base.specs.Bytes.{byteAt, Bytes}
 use Rattle.grammar.specs.Grammar.{Grammar}
 use Rattle.plain.specs.Plain.{syntax, noRoom, Parses}
 use Rattle.plain.specs.Tokens.{tokenSize, tokensFrom, Sentence, Kinds, BadToken, sentence-of, bad-token}
-use Rattle.plain.specs.Machine.{Done, Going}
+use Rattle.plain.specs.Machine.{At, Done, Going}
 use Rattle.plain.specs.declared.Tokens.{Tokens}
 use Rattle.plain.specs.declared.Tokens.the-variants.{Good, Bad}
 use Rattle.plain.specs.declared.Parsed.{Parsed}
@@ -56,3 +56,30 @@ module _ (t : ℕ) (b : List ℕ) (f : Bytes b) (count i : ℕ) (e : count ≡ l
       let long : length b ≡ tokenSize * count = omega arith in
       let k : Kinds t b count = rw q at h in
       record { long = long; kinds = k; sentence = sentence-of t b count f long k }
+
+-- ---- what a turn that goes on says
+
+module _ (G : Grammar) (S : ℕ) (b : List ℕ) (m : ℕ) (w w' : List ℕ) (o : ℕ) (r : Turn) (h : Turned G S b m w w' o r) where
+  module _ (p k : ℕ) (e : r ≡ Go p k) where
+    gone : Going G S b m w w' (o + 1) p k
+    gone = subst (Turned G S b m w w' o) e h
+
+    pub turned-long : length w' ≡ length w
+    turned-long = gone .long
+
+    pub turned-low : p ≤ length w'
+    turned-low = gone .low
+
+    pub turned-room : o + 1 + (length w' - p) ≤ S
+    turned-room = gone .room
+
+    pub turned-matched : k ≤ m
+    turned-matched = gone .matched
+
+    pub turned-at : At G S b m w' p (o + 1) k
+    turned-at = gone .at
+
+  pub turned-over : (v : Parsed) → r ≡ Over v → Ran G S b m w' v
+  turned-over v e = subst (Turned G S b m w w' o) e h
+
+pub ruleset turns = (turned-long, turned-low, turned-room, turned-matched, turned-at)

@@ -7,7 +7,7 @@ ghost use Rattle.grammar.specs.Limits.{maxBody, maxNonterminals, columns};
 ghost use Rattle.grammar.specs.Rows.{symbolAt, grammarIn};
 ghost use Rattle.trees.specs.Area.{maxSlots};
 ghost use Rattle.trees.specs.Coded.{nodeSize};
-ghost use Rattle.plain.specs.Machine.{Lit, marked as markedm, Ground, At};
+ghost use Rattle.plain.specs.Machine.{Lit, marked as markedm, Ground, Begun, At};
 ghost use Rattle.plain.specs.Outcome.{Told, Ran, Turned};
 
 pub const TOKEN_SIZE: usize = 5;
@@ -138,4 +138,67 @@ fn step(
     push(work, top, rows, q - 1, len);
     trees::put_node(work, o, o + 1, x, q, 0);
     Turn::Go(top, k)
+}
+
+// The start symbol alone on the stack; its place.
+fn begin(work: &mut [u8], start: u8) -> usize
+    requires { ⌜ 1 ≤ length (now work) ⌝ }
+    ensures { λ r. ⌜ Begun (now (work .entry)) (now (work .exit)) r start ⌝ }
+{
+    let p = work.len() - 1;
+    work[p] = start;
+    p
+}
+
+// The plain parse of m good tokens into so many slots. The nodes stand at the beginning of `work` and the stack at its end.
+pub fn parse(
+    tokens: &[u8],
+    m: usize,
+    tables: &[u8],
+    rows: &[u8],
+    t: usize,
+    n: usize,
+    start: usize,
+    count: usize,
+    slots: usize,
+    work: &mut [u8],
+) -> Parsed
+    requires { ⌜ Ground (now rows) t n start count (now tables) (now tokens) m × (1 ≤ slots) × (slots ≤ maxSlots) × (nodeSize * slots + slots ≤ length (now work)) ⌝ }
+    ensures { λ r. ⌜ Ran (grammarIn (now (rows .entry)) t n start count) slots (now (tokens .entry)) m (now (work .exit)) r ⌝ }
+{
+    let mut p = begin(work, start as u8);
+    let mut k: usize = 0;
+    let mut o: usize = 0;
+    while o < slots {
+        let i = o;
+        o += 1;
+        let r = step(
+            tokens,
+            m,
+            tables,
+            rows,
+            t,
+            n,
+            start,
+            count,
+            slots,
+            work,
+            i,
+            p,
+            k,
+        );
+        match r {
+            Turn::Go(top, token) => {
+                p = top;
+                k = token;
+            }
+            Turn::Over(v) => {
+                return v;
+            }
+        }
+    }
+    if k == m {
+        return Parsed::Accepted(o);
+    }
+    Parsed::Syntax(k, 1)
 }
