@@ -4,3 +4,5 @@ pub mod Area
 pub mod Nodes
 pub mod Coded
 pub mod Listing
+pub mod Slots
+pub mod Adopting
