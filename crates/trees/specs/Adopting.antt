@@ -82,7 +82,7 @@ pub record Takes (parent k : ℕ) (f : Forest) (b b' : List ℕ) (n : ℕ) : Typ
   pub next : n ≡ top (back k f)
   pub others : (x : ℕ) → (List·Memᴰ x (slots f) → ⊥) → slotAt b' x ≡ slotAt b x
 
-top-front : (k : ℕ) (f : Forest) → top f ≡ top (front (suc k) f)
+pub top-front : (k : ℕ) (f : Forest) → top f ≡ top (front (suc k) f)
 top-front k Forest.nil = refl
 top-front k (Forest.leaf s a g r) = refl
 top-front k (Forest.node s M p c r) = refl

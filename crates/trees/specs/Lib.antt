@@ -6,3 +6,4 @@ pub mod Coded
 pub mod Listing
 pub mod Slots
 pub mod Adopting
+pub mod Laying
