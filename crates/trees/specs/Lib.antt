@@ -7,3 +7,4 @@ pub mod Listing
 pub mod Slots
 pub mod Adopting
 pub mod Laying
+pub mod AreaOne

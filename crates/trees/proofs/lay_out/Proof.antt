@@ -45,7 +45,7 @@ same-length : tie.Need-same-length Inv-loop μ-loop
 same-length c = search needs
 
 returns : tie.Need-returns Inv-loop μ-loop
-returns c = laid-all _ _ _ _ _ _ _ _ _ (search needs) (c .before .before .before .before .before .before .before .before .before .before .before .before .before .pre .3) (c .before .before .before .before .before .loop .inv .4) (c .before .before .before .before .before .loop .inv .5) (c .before .before .put-header .ensures)
+returns c = laid-all _ _ (c .before .before .before .before .before .before .before .before .before .before .before .before .before .args .nodes .now) (c .before .before .before .before .before .before .before .before .before .before .before .before .before .args .n) _ _ _ _ _ (search needs) (c .before .before .before .before .before .before .before .before .before .before .before .before .before .pre .3) (c .before .before .before .before .before .loop .inv .4) (c .before .before .before .before .before .loop .inv .5) (c .before .before .put-header .ensures)
 
 pub lay-out-spec : {M : Type 1} → statement M
 lay-out-spec =
