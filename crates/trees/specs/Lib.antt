@@ -4,3 +4,7 @@ pub mod Area
 pub mod Nodes
 pub mod Coded
 pub mod Listing
+pub mod Slots
+pub mod Adopting
+pub mod Laying
+pub mod AreaOne
