@@ -1,7 +1,7 @@
-use Rattle.kindlesap.specs.Reply.{counts-refused}
+use Rattle.replies.specs.Reply.{counts-refused}
 use borrow.Author.Needs.{needs}
-use Rattle.kindlesap.proofs.counts_of.Statement.{statement}
-use Rattle.kindlesap.proofs.counts_of.Tie as tie
+use Rattle.replies.proofs.counts_of.Statement.{statement}
+use Rattle.replies.proofs.counts_of.Tie as tie
 
 enum-known-reply : tie.Need-enum-known-reply
 enum-known-reply c = search needs

@@ -1,12 +1,12 @@
 use Rattle.base.specs.Bytes.{leBytes}
-use Rattle.kindlesap.specs.Reply.{LeAt, le-start, le-next, put-none, put-turn, put-end}
+use Rattle.replies.specs.Reply.{LeAt, le-start, le-next, put-none, put-turn, put-end}
 use lib.Seq.{paste}
 use Prim.Native.Nat.{_+_, _-_, _≤_}
 use mathlib.Core.Path.{_≡_}
 use lib.ListN.{length}
 use borrow.Author.Needs.{needs}
-use Rattle.kindlesap.proofs.put.Statement.{statement}
-use Rattle.kindlesap.proofs.put.Tie as tie
+use Rattle.replies.proofs.put.Statement.{statement}
+use Rattle.replies.proofs.put.Tie as tie
 
 abbrev Inv-loop : tie.InvT-loop
 Inv-loop b₀ at k v x₀ i₀ b x i = (at + k ≤ length b₀) × (length b ≡ length b₀) × (i ≤ k) × LeAt k v i x × (b ≡ paste b₀ at (leBytes k v) i)

@@ -1,0 +1,2 @@
+-- Meaning: the reply and its bytes.
+pub mod Reply
