@@ -14,7 +14,7 @@ use Rattle.grammar.specs.Rows.{lengthAt}
 use Rattle.trees.specs.Coded.{nodeAt, nodesFrom, arityIn}
 use Rattle.trees.specs.Listing.{nodeOf}
 use Rattle.trees.specs.Slots.{Slotted, slot-zeros}
-use Rattle.trees.specs.Adopting.{Adopted, adopted, Small, Takes, adopts, linked-kept, top-front}
+use Rattle.trees.specs.Adopting.{Adopted, adopted, Reach, linked-reach, Small, Takes, adopts, linked-kept, top-front}
 
 -- the slots of nodes
 abbrev pub slotsOf : List Node → List ℕ
@@ -103,6 +103,13 @@ laid-none S ar w n m b l e =
       linked = Linked.nil;
       free = λ s i j k. slot-zeros (areaSize S) s (omega arith);
     })
+
+-- where the first trees are to become children of node e, they lie within the area
+pub record Ready (ar : ℕ → ℕ) (e : Node) (head : ℕ) (b : List ℕ) : Type 0 where
+  pub reach : 0 < e .production → (k : ℕ) → 0 < k → k ≡ ar (e .production) → Reach b (k - 1) head
+
+pub ready-reach : (ar : ℕ → ℕ) (e : Node) (head k p : ℕ) (b : List ℕ) → p ≡ e .production → (p ≡ 0 → ⊥) → k ≡ ar (e .production) → (k ≡ 0 → ⊥) → Ready ar e head b → Reach b (k - 1) head
+ready-reach ar e head k p b i z q n h = h .reach (omega (arith, z)) k (omega (arith, n)) q
 
 -- node e is put before those that are laid out, and r is its slot
 pub record Lays (ar : ℕ → ℕ) (e : Node) (head : ℕ) (b : List ℕ) (r : ℕ) (b' : List ℕ) : Type 0 where
@@ -246,6 +253,18 @@ module _ (w : List ℕ) (n i : ℕ) (l : 0 < i) (m : i ≤ n) where
 
   pub spread-room : (S size : ℕ) → size ≡ areaSize S → Spread S (nodesFrom w n 0) → slotSize * nodeAt w (i - 1) .slot + slotSize ≤ size
   spread-room S size e h = let q = each-head (spread-from S h .within) in omega arith
+
+  pub laid-ready : (S : ℕ) (ar : ℕ → ℕ) (head : ℕ) (b : List ℕ) → S ≤ maxSlots → Spread S (nodesFrom w n 0) → Fed ar (nodesFrom w n 0)
+      → Laid S ar (nodesFrom w (n - i) i) head b → Ready ar (nodeAt w (i - 1)) head b
+  laid-ready S ar head b k h d a = record { reach = go (fed-from ar d) }
+    where
+      within : Each (λ s. (1 ≤ s) × (s ≤ S)) (slots (build ar (nodesFrom w (n - i) i)))
+      within = rw (slots-build ar (nodesFrom w (n - i) i)) (each-tail (spread-from S h .within))
+
+      go : Fed ar (nodeAt w (i - 1) ∷ nodesFrom w (n - i) i) → 0 < nodeAt w (i - 1) .production → (k : ℕ) → 0 < k → k ≡ ar (nodeAt w (i - 1) .production) → Reach b (k - 1) head
+      go (Fed.cons c _) z j y q =
+          let u = c z in
+          rw (a .first) (linked-reach (j - 1) S b (build ar (nodesFrom w (n - i) i)) k (a .long) (omega arith) (a .linked) within)
 
   pub laid-turn : (S : ℕ) (ar : ℕ → ℕ) (head r : ℕ) (b b' : List ℕ) → S ≤ maxSlots → Spread S (nodesFrom w n 0) → Fed ar (nodesFrom w n 0)
       → Lays ar (nodeAt w (i - 1)) head b r b' → Laid S ar (nodesFrom w (n - i) i) head b → Laid S ar (nodesFrom w (n - (i - 1)) (i - 1)) r b'
