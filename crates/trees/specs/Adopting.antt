@@ -83,10 +83,6 @@ linked-kept h (Linked.node {s = s} {k = k} {r = r} e c l) =
 
 -- ---- numbers that stand once
 
-pub distinct-left : (xs ys : List ℕ) → Distinct (xs ++ ys) → Distinct xs
-distinct-left [] ys d = Distinct.nil
-distinct-left (x ∷ xs) ys (Distinct.cons n d) = Distinct.cons (λ m. n (Memᴰ·append-left ys m)) (distinct-left xs ys d)
-
 pub distinct-right : (xs ys : List ℕ) → Distinct (xs ++ ys) → Distinct ys
 distinct-right [] ys d = d
 distinct-right (x ∷ xs) ys (Distinct.cons n d) = distinct-right xs ys d
@@ -100,6 +96,9 @@ distinct-apart (y ∷ xs) ys x (Distinct.cons n d) (List·Memᴰ·tail k) m = di
 -- a slot's number fits its link
 abbrev pub Small : ℕ → Type 0
 Small s = s < 65536
+
+pub small-within : {S : ℕ} {xs : List ℕ} → S ≤ maxSlots → Each (λ s. (1 ≤ s) × (s ≤ S)) xs → Each Small xs
+small-within {S} m = each-map (λ s (j : (1 ≤ s) × (s ≤ S)). omega arith)
 
 pub top-small : (f : Forest) → Each Small (slots f) → top f < 65536
 top-small Forest.nil e = omega arith
@@ -190,18 +189,12 @@ linked-reach k S b Forest.nil m n t l e = absurd (omega arith)
 linked-reach zero S b (Forest.leaf s a g r) m n t l (Each.cons i e) = omega arith
 linked-reach zero S b (Forest.node s M p c r) m n t l (Each.cons i e) = omega arith
 linked-reach (suc k) S b (Forest.leaf s a g r) m n t (Linked.leaf h _ l) (Each.cons i e) =
-    let q = next-get b s a 0 0 0 (top r) g h (top-small r (small e)) in
+    let q = next-get b s a 0 0 0 (top r) g h (top-small r (small-within m e)) in
     (omega arith, rw q (linked-reach k S b r m n (omega arith) l e))
-  where
-    small : {xs : List ℕ} → Each (λ s. (1 ≤ s) × (s ≤ S)) xs → Each Small xs
-    small = each-map (λ s (j : (1 ≤ s) × (s ≤ S)). omega arith)
 linked-reach (suc k) S b (Forest.node s M p c r) m n t (Linked.node h _ l) (Each.cons i e) =
     let o = each-parts (slots c) e .1 in
-    let q = next-get b s M p 0 (top c) (top r) 0 h (top-small r (small o)) in
+    let q = next-get b s M p 0 (top c) (top r) 0 h (top-small r (small-within m o)) in
     (omega arith, rw q (linked-reach k S b r m n (omega arith) l o))
-  where
-    small : {xs : List ℕ} → Each (λ s. (1 ≤ s) × (s ≤ S)) xs → Each Small xs
-    small = each-map (λ s (j : (1 ≤ s) × (s ≤ S)). omega arith)
 
 adopted-more : (parent k s : ℕ) (b : List ℕ) (n : ℕ) → get16 (put16 b (slotSize * s + parentPlace) parent) (slotSize * s + nextPlace) ≡ n
     → adopted parent (suc k) b s ≡ adopted parent k (put16 b (slotSize * s + parentPlace) parent) n

@@ -10,7 +10,8 @@ ghost use Rattle.trees.specs.Nodes.{build, Fed};
 ghost use Rattle.trees.specs.Listing.{nodeOf, Fits, Put};
 ghost use Rattle.trees.specs.Slots.{Slotted, parentPlace, nextPlace};
 ghost use Rattle.trees.specs.Adopting.{adopted, Reach};
-ghost use Rattle.trees.specs.Laying.{Spread, Ready, Lays, tokenOf};
+ghost use Rattle.trees.specs.Laying.{Ready, Lays, tokenOf};
+ghost use Rattle.trees.specs.Spread.{Spread};
 
 pub const NODE_SIZE: usize = 8;
 
