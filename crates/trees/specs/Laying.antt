@@ -1,90 +1,20 @@
 -- An area laid out from a node list, the last node first: at every node the area holds the forest of the nodes behind it, its trees as siblings below 0.
 use Prim.Native.Nat.{ℕ, zero, suc, _+_, _-_, _*_, _≤_, _<_}
 use mathlib.Core.Path.{_≡_, refl, sym, ap, _∙_}
-use mathlib.Core.List.{List, [], _∷_, _++_, append-assoc, List·Memᴰ, List·Memᴰ·head, List·Memᴰ·tail, Memᴰ·append-left, Memᴰ·append-right, Memᴰ·cast}
+use mathlib.Core.List.{List, _∷_, List·Memᴰ, List·Memᴰ·head, List·Memᴰ·tail, Memᴰ·append-left, Memᴰ·append-right, Memᴰ·cast}
 use lib.ListN.{length}
 use native.Mathlib.Omega.{arith}
 use Rattle.base.specs.Blocks.{zeros, length-zeros}
-use Rattle.grammar.specs.Each.{Each, each-head, each-tail, each-map}
+use Rattle.grammar.specs.Each.{Each, each-head, each-tail}
 use Rattle.grammar.specs.Forest.{Forest, size, yield}
-use Rattle.grammar.specs.Trees.{join, yield-join, size-join}
 use Rattle.trees.specs.Area.{slotSize, maxSlots, areaSize, tagSpace, slotAt, slotBytes, headerBytes, top, slots, Distinct, Linked, Area}
 use Rattle.trees.specs.Nodes.{Node, trees, front, back, above, build, Fed}
 use Rattle.grammar.specs.Rows.{lengthAt}
 use Rattle.trees.specs.Coded.{nodeAt, nodesFrom, arityIn}
 use Rattle.trees.specs.Listing.{nodeOf}
+use Rattle.trees.specs.Spread.{slotsOf, Spread, slots-parts, above-leaf, above-inner, tokens-inner, slots-build, size-build}
 use Rattle.trees.specs.Slots.{Slotted, slot-zeros}
-use Rattle.trees.specs.Adopting.{Adopted, adopted, Small, Takes, adopts, linked-kept, top-front}
-
--- the slots of nodes
-abbrev pub slotsOf : List Node → List ℕ
-slotsOf [] = []
-slotsOf (e ∷ es) = e .slot ∷ slotsOf es
-
--- the nodes' slots are among 1..S, each once
-pub record Spread (S : ℕ) (es : List Node) : Type 0 where
-  pub once : Distinct (slotsOf es)
-  pub within : Each (λ s. (1 ≤ s) × (s ≤ S)) (slotsOf es)
-
--- ---- a forest and its first trees
-
-front-back : (k : ℕ) (f : Forest) → join (front k f) (back k f) ≡ f
-front-back zero f = refl
-front-back (suc k) Forest.nil = refl
-front-back (suc k) (Forest.leaf s a g r) = ap (Forest.leaf s a g) (front-back k r)
-front-back (suc k) (Forest.node s M p c r) = ap (Forest.node s M p c) (front-back k r)
-
-slots-join : (f g : Forest) → slots (join f g) ≡ slots f ++ slots g
-slots-join Forest.nil g = refl
-slots-join (Forest.leaf s a x r) g = ap (λ (l : List ℕ). s ∷ l) (slots-join r g)
-slots-join (Forest.node s M p k r) g = ap (λ (l : List ℕ). s ∷ l) (ap (λ (l : List ℕ). slots k ++ l) (slots-join r g) ∙ sym (append-assoc (slots k) (slots r) (slots g)))
-
-slots-parts : (k : ℕ) (f : Forest) → slots (front k f) ++ slots (back k f) ≡ slots f
-slots-parts k f = sym (slots-join (front k f) (back k f)) ∙ ap slots (front-back k f)
-
-yield-parts : (k : ℕ) (f : Forest) → yield (front k f) ++ yield (back k f) ≡ yield f
-yield-parts k f = sym (yield-join (front k f) (back k f)) ∙ ap yield (front-back k f)
-
-size-parts : (k : ℕ) (f : Forest) → size (front k f) + size (back k f) ≡ size f
-size-parts k f = sym (size-join (front k f) (back k f)) ∙ ap size (front-back k f)
-
--- ---- a node above a forest
-
-module _ (ar : ℕ → ℕ) (s x g : ℕ) (f : Forest) where
-  above-leaf : (p : ℕ) → p ≡ 0 → above ar (nodeOf s x p g) f ≡ Forest.leaf s x g f
-  above-leaf zero e = refl
-  above-leaf (suc p) e = absurd (omega arith)
-
-  above-inner : (p : ℕ) → 0 < p → above ar (nodeOf s x p g) f ≡ Forest.node s x p (front (ar p) f) (back (ar p) f)
-  above-inner zero l = absurd (omega arith)
-  above-inner (suc p) l = refl
-
-  slots-above : (p : ℕ) → slots (above ar (nodeOf s x p g) f) ≡ s ∷ slots f
-  slots-above zero = refl
-  slots-above (suc p) = ap (λ (l : List ℕ). s ∷ l) (slots-parts (ar (suc p)) f)
-
-  size-above : (p : ℕ) → size (above ar (nodeOf s x p g) f) ≡ suc (size f)
-  size-above zero = refl
-  size-above (suc p) = ap suc (size-parts (ar (suc p)) f)
-
-  tokens-leaf : (p : ℕ) → p ≡ 0 → length (yield (above ar (nodeOf s x p g) f)) ≡ length (yield f) + 1
-  tokens-leaf zero e = omega arith
-  tokens-leaf (suc p) e = absurd (omega arith)
-
-  tokens-inner : (p : ℕ) → 0 < p → length (yield (above ar (nodeOf s x p g) f)) ≡ length (yield f)
-  tokens-inner zero l = absurd (omega arith)
-  tokens-inner (suc p) l = ap length (yield-parts (ar (suc p)) f)
-
--- the slots of the forest are those of its nodes
-pub slots-build : (ar : ℕ → ℕ) (es : List Node) → slots (build ar es) ≡ slotsOf es
-slots-build ar [] = refl
-slots-build ar (e ∷ es) =
-    slots-above ar (e .slot) (e .symbol) (e .tag) (build ar es) (e .production) ∙ ap (λ (l : List ℕ). e .slot ∷ l) (slots-build ar es)
-
-pub size-build : (ar : ℕ → ℕ) (es : List Node) → size (build ar es) ≡ length es
-size-build ar [] = refl
-size-build ar (e ∷ es) =
-    size-above ar (e .slot) (e .symbol) (e .tag) (build ar es) (e .production) ∙ ap suc (size-build ar es)
+use Rattle.trees.specs.Adopting.{Adopted, adopted, Reach, linked-reach, Small, small-within, Takes, adopts, linked-kept, top-front}
 
 -- ---- what the area holds when the nodes es are laid out
 
@@ -103,6 +33,13 @@ laid-none S ar w n m b l e =
       linked = Linked.nil;
       free = λ s i j k. slot-zeros (areaSize S) s (omega arith);
     })
+
+-- where the first trees are to become children of node e, they lie within the area
+pub record Ready (ar : ℕ → ℕ) (e : Node) (head : ℕ) (b : List ℕ) : Type 0 where
+  pub reach : 0 < e .production → (k : ℕ) → 0 < k → k ≡ ar (e .production) → Reach b (k - 1) head
+
+pub ready-reach : (ar : ℕ → ℕ) (e : Node) (head k p : ℕ) (b : List ℕ) → p ≡ e .production → (p ≡ 0 → ⊥) → k ≡ ar (e .production) → (k ≡ 0 → ⊥) → Ready ar e head b → Reach b (k - 1) head
+ready-reach ar e head k p b i z q n h = h .reach (omega (arith, z)) k (omega (arith, n)) q
 
 -- node e is put before those that are laid out, and r is its slot
 pub record Lays (ar : ℕ → ℕ) (e : Node) (head : ℕ) (b : List ℕ) (r : ℕ) (b' : List ℕ) : Type 0 where
@@ -123,7 +60,7 @@ module _ (S : ℕ) (ar : ℕ → ℕ) (e : Node) (es : List Node) (h : Spread S 
       go (Distinct.cons _ d) = d
 
   small-below : S ≤ maxSlots → Each Small (slots (build ar es))
-  small-below m = rw (slots-build ar es) (each-map (λ s (l : (1 ≤ s) × (s ≤ S)). omega arith) (each-tail (h .within)))
+  small-below m = rw (slots-build ar es) (small-within m (each-tail (h .within)))
 
   -- what the area is once slot s of e is written, if w is b but for the slots of es
   laid-more : (head : ℕ) (b w c b' : List ℕ) (f : Forest) → above ar e (build ar es) ≡ f → top f ≡ e .slot → Linked b' 0 f → length w ≡ length b
@@ -246,6 +183,18 @@ module _ (w : List ℕ) (n i : ℕ) (l : 0 < i) (m : i ≤ n) where
 
   pub spread-room : (S size : ℕ) → size ≡ areaSize S → Spread S (nodesFrom w n 0) → slotSize * nodeAt w (i - 1) .slot + slotSize ≤ size
   spread-room S size e h = let q = each-head (spread-from S h .within) in omega arith
+
+  pub laid-ready : (S : ℕ) (ar : ℕ → ℕ) (head : ℕ) (b : List ℕ) → S ≤ maxSlots → Spread S (nodesFrom w n 0) → Fed ar (nodesFrom w n 0)
+      → Laid S ar (nodesFrom w (n - i) i) head b → Ready ar (nodeAt w (i - 1)) head b
+  laid-ready S ar head b k h d a = record { reach = go (fed-from ar d) }
+    where
+      within : Each (λ s. (1 ≤ s) × (s ≤ S)) (slots (build ar (nodesFrom w (n - i) i)))
+      within = rw (slots-build ar (nodesFrom w (n - i) i)) (each-tail (spread-from S h .within))
+
+      go : Fed ar (nodeAt w (i - 1) ∷ nodesFrom w (n - i) i) → 0 < nodeAt w (i - 1) .production → (k : ℕ) → 0 < k → k ≡ ar (nodeAt w (i - 1) .production) → Reach b (k - 1) head
+      go (Fed.cons c _) z j y q =
+          let u = c z in
+          rw (a .first) (linked-reach (j - 1) S b (build ar (nodesFrom w (n - i) i)) k (a .long) (omega arith) (a .linked) within)
 
   pub laid-turn : (S : ℕ) (ar : ℕ → ℕ) (head r : ℕ) (b b' : List ℕ) → S ≤ maxSlots → Spread S (nodesFrom w n 0) → Fed ar (nodesFrom w n 0)
       → Lays ar (nodeAt w (i - 1)) head b r b' → Laid S ar (nodesFrom w (n - i) i) head b → Laid S ar (nodesFrom w (n - (i - 1)) (i - 1)) r b'

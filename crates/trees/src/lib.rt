@@ -3,14 +3,15 @@ ghost use mathlib.Core.Path.{_≡_};
 ghost use Prim.Native.Nat.{_+_, _-_, _*_, _<_, _≤_};
 ghost use lib.ListN.{length};
 ghost use Rattle.trees.specs.Area.{slotSize, maxSlots, areaSize, tagSpace, slotBytes, headerBytes, Area};
-ghost use Rattle.base.specs.Bytes.{byteAt};
+ghost use Rattle.base.specs.Bytes.{byteAt, get16, put16};
 ghost use Rattle.base.specs.Filled.{Filled};
-ghost use Rattle.trees.specs.Coded.{nodeSize, nodeBytes, nodeAt, nodesFrom, arityIn};
+ghost use Rattle.trees.specs.Coded.{nodeSize, get32, nodeBytes, nodeAt, nodesFrom, arityIn};
 ghost use Rattle.trees.specs.Nodes.{build, Fed};
 ghost use Rattle.trees.specs.Listing.{nodeOf, Fits, Put};
-ghost use Rattle.trees.specs.Slots.{Slotted};
-ghost use Rattle.trees.specs.Adopting.{adopted};
-ghost use Rattle.trees.specs.Laying.{Spread, Lays, tokenOf};
+ghost use Rattle.trees.specs.Slots.{Slotted, parentPlace, nextPlace};
+ghost use Rattle.trees.specs.Adopting.{adopted, Reach};
+ghost use Rattle.trees.specs.Laying.{Ready, Lays, tokenOf};
+ghost use Rattle.trees.specs.Spread.{Spread};
 
 pub const NODE_SIZE: usize = 8;
 
@@ -108,6 +109,30 @@ pub fn put_node(
     put_bytes(nodes, NODE_SIZE * i, &bytes, NODE_SIZE);
 }
 
+// The two-byte and the four-byte number at `at`.
+fn pair(b: &[u8], at: usize) -> usize
+    requires { ⌜ at + 1 < length (now b) ⌝ }
+    ensures { λ r. ⌜ (r ≡ get16 (now (b .entry)) at) × (r < 65536) ⌝ }
+{
+    base::wide(b[at]) + 256 * base::wide(b[at + 1])
+}
+
+fn quad(b: &[u8], at: usize) -> usize
+    requires { ⌜ at + 3 < length (now b) ⌝ }
+    ensures { λ r. ⌜ (r ≡ get32 (now (b .entry)) at) × (r < tagSpace) ⌝ }
+{
+    let c = base::wide(b[at + 2]) + 256 * base::wide(b[at + 3]);
+    base::wide(b[at]) + 256 * (base::wide(b[at + 1]) + 256 * c)
+}
+
+fn put_pair(b: &mut [u8], at: usize, v: usize)
+    requires { ⌜ (at + 1 < length (now b)) × (v < 65536) ⌝ }
+    ensures { λ _. ⌜ now (b .exit) ≡ put16 (now (b .entry)) at v ⌝ }
+{
+    b[at] = (v % 256) as u8;
+    b[at + 1] = (v / 256) as u8;
+}
+
 // The bytes of a slot with no parent.
 fn slot_bytes(symbol: usize, production: usize, first: usize, next: usize, tag: usize) -> [u8; 16]
     requires { ⌜ (symbol < 256) × (production < 256) ⌝ }
@@ -150,34 +175,42 @@ fn put_slot(
     put_bytes(area, SLOT_SIZE * s, &bytes, SLOT_SIZE);
 }
 
-// Sets the parent of the first k trees, the first one at `head`, cuts the last one from the tree behind it, and answers that tree's slot.
+// Sets the parent of slot s, and answers its next sibling.
+fn hang(area: &mut [u8], s: usize, parent: usize) -> usize
+    requires { ⌜ (slotSize * s + slotSize ≤ length (now area)) × (parent < 65536) ⌝ }
+    ensures { λ r. ⌜ (now (area .exit) ≡ put16 (now (area .entry)) (slotSize * s + parentPlace) parent) × (r ≡ get16 (now (area .exit)) (slotSize * s + nextPlace)) × (r < 65536) ⌝ }
+{
+    put_pair(area, SLOT_SIZE * s + PARENT, parent);
+    pair(area, SLOT_SIZE * s + NEXT)
+}
+
+// Sets the parent of k trees, the first one at `head`, cuts the last one from the tree behind it, and answers that tree's slot.
 fn adopt(area: &mut [u8], parent: usize, head: usize, k: usize) -> usize
-    requires { ⌜ (parent < 65536) × (head < 65536) × (0 < k) ⌝ }
+    requires { ⌜ (parent < 65536) × (0 < k) × Reach (now area) (k - 1) head ⌝ }
     ensures { λ r. ⌜ ((now (area .exit) ≡ adopted parent (k - 1) (now (area .entry)) head .bytes) × (r ≡ adopted parent (k - 1) (now (area .entry)) head .next)) × (r < 65536) ⌝ }
 {
     let mut s = head;
     let mut more = k - 1;
     while 0 < more {
-        base::put16(area, SLOT_SIZE * s + PARENT, parent as u16);
-        s = base::get16(area, SLOT_SIZE * s + NEXT);
+        s = hang(area, s, parent);
         more -= 1;
     }
-    base::put16(area, SLOT_SIZE * s + PARENT, parent as u16);
-    let next = base::get16(area, SLOT_SIZE * s + NEXT);
-    base::put16(area, SLOT_SIZE * s + NEXT, 0);
+    let next = hang(area, s, parent);
+    put_pair(area, SLOT_SIZE * s + NEXT, 0);
     next
 }
 
 // Lays out node i before the trees that stand in the area, the first one at `head`, and answers its slot.
 fn lay_node(nodes: &[u8], i: usize, rows: &[u8], head: usize, area: &mut [u8]) -> usize
-    requires { ⌜ (head < 65536) × (slotSize * nodeAt (now nodes) i .slot + slotSize ≤ length (now area)) ⌝ }
-    ensures { λ r. ⌜ (r < 65536) × Lays (arityIn (now (rows .entry))) (nodeAt (now (nodes .entry)) i) head (now (area .entry)) r (now (area .exit)) ⌝ }
+    requires { ⌜ (nodeSize * i + nodeSize ≤ length (now nodes)) × (slotSize * nodeAt (now nodes) i .slot + slotSize ≤ length (now area)) × Ready (arityIn (now rows)) (nodeAt (now nodes) i) head (now area) ⌝ }
+    ensures { λ r. ⌜ Lays (arityIn (now (rows .entry))) (nodeAt (now (nodes .entry)) i) head (now (area .entry)) r (now (area .exit)) ⌝ }
 {
-    let s = slot_of(nodes, i);
-    let symbol = symbol_of(nodes, i);
-    let production = production_of(nodes, i);
+    let at = NODE_SIZE * i;
+    let symbol = base::wide(nodes[at]);
+    let production = base::wide(nodes[at + 1]);
+    let s = pair(nodes, at + 2);
     if production == 0 {
-        put_slot(area, s, symbol, 0, 0, head, tag_of(nodes, i));
+        put_slot(area, s, symbol, 0, 0, head, quad(nodes, at + 4));
         return s;
     }
     let k = grammar::length_at(rows, production - 1);
@@ -192,9 +225,10 @@ fn lay_node(nodes: &[u8], i: usize, rows: &[u8], head: usize, area: &mut [u8]) -
 
 // 1 for a leaf, else 0.
 fn token(nodes: &[u8], i: usize) -> usize
+    requires { ⌜ nodeSize * i + nodeSize ≤ length (now nodes) ⌝ }
     ensures { λ r. ⌜ (r ≡ tokenOf (nodeAt (now (nodes .entry)) i .production)) × (r ≤ 1) ⌝ }
 {
-    if production_of(nodes, i) == 0 {
+    if nodes[NODE_SIZE * i + 1] == 0 {
         return 1;
     }
     0
@@ -233,7 +267,7 @@ fn put_header(area: &mut [u8], root: usize, used: usize, tokens: usize)
 
 // Writes the whole area of the tree whose n nodes are listed: the last node first, so that a node's children stand before it.
 pub fn lay_out(nodes: &[u8], n: usize, rows: &[u8], slots: usize, area: &mut [u8])
-    requires { ⌜ (slots ≤ maxSlots) × (n ≤ slots) × (length (now area) ≡ areaSize slots) × Spread slots (nodesFrom (now nodes) n 0) × Fed (arityIn (now rows)) (nodesFrom (now nodes) n 0) ⌝ }
+    requires { ⌜ (slots ≤ maxSlots) × (n ≤ slots) × (nodeSize * n ≤ length (now nodes)) × (length (now area) ≡ areaSize slots) × Spread slots (nodesFrom (now nodes) n 0) × Fed (arityIn (now rows)) (nodesFrom (now nodes) n 0) ⌝ }
     ensures { λ _. ⌜ Area slots (build (arityIn (now (rows .entry))) (nodesFrom (now (nodes .entry)) n 0)) (now (area .exit)) ⌝ }
 {
     base::zero(area);

@@ -1,28 +1,50 @@
-use Rattle.trees.specs.Laying.{lay-leaf, lay-empty, lay-inner, arity-at}
+use mathlib.Core.Path.{_∙_}
+use Rattle.trees.specs.Coded.{nodeAt}
+use Rattle.trees.specs.Listing.{node-slot, node-symbol, node-production, node-tag}
+use Rattle.trees.specs.Laying.{lay-leaf, lay-empty, lay-inner, arity-at, ready-reach}
 use borrow.Author.Needs.{needs}
 use Rattle.trees.proofs.lay_node.Statement.{statement}
 use Rattle.trees.proofs.lay_node.Tie as tie
 
-slot-of-requires : tie.Need-slot-of-requires
-slot-of-requires c κs = search needs
+mul-at : tie.Need-mul-at
+mul-at c = search needs
 
-symbol-of-requires : tie.Need-symbol-of-requires
-symbol-of-requires c κs = search needs
+shared-slice-read-wide : tie.Need-shared-slice-read-wide
+shared-slice-read-wide c = search needs
 
-production-of-requires : tie.Need-production-of-requires
-production-of-requires c κs = search needs
+wide-requires : tie.Need-wide-requires
+wide-requires c κs = search needs
 
-tag-of-requires : tie.Need-tag-of-requires
-tag-of-requires c κs = search needs
+add-wide : tie.Need-add-wide
+add-wide c = search needs
+
+shared-slice-read-wide-2 : tie.Need-shared-slice-read-wide-2
+shared-slice-read-wide-2 c = search needs
+
+wide-requires-2 : tie.Need-wide-requires-2
+wide-requires-2 c κs = search needs
+
+add-pair : tie.Need-add-pair
+add-pair c = search needs
+
+pair-requires : tie.Need-pair-requires
+pair-requires c κs = search needs
+
+add-quad : tie.Need-add-quad
+add-quad c = search needs
+
+quad-requires : tie.Need-quad-requires
+quad-requires c κs = search needs
 
 put-slot-requires : tie.Need-put-slot-requires
+unfolding nodeAt
 put-slot-requires c κs = search needs
 
 same-length : tie.Need-same-length
 same-length c = search needs
 
 returns : tie.Need-returns
-returns c = (search needs, lay-leaf _ _ _ _ _ _ _ _ (c .before .before .before .before .before .before .before .before .slot-of .ensures .0) (c .before .before .before .before .before .before .before .symbol-of .ensures .0) (c .before .before .before .before .before .before .production-of .ensures .0) _ (search needs) (c .before .before .before .tag-of .ensures .0) (search needs) (c .before .before .put-slot .ensures))
+returns c = lay-leaf _ _ _ _ _ _ _ _ (c .before .before .before .before .before .before .pair .ensures .0 ∙ node-slot _ _) (c .before .before .before .before .before .before .before .before .before .wide .ensures .0 ∙ node-symbol _ _) (c .before .before .before .before .before .before .before .wide2 .ensures .0 ∙ node-production _ _) _ (search needs) (c .before .before .before .quad .ensures .0 ∙ node-tag _ _) (search needs) (c .before .before .put-slot .ensures)
 
 sub-length-at : tie.Need-sub-length-at
 sub-length-at c = search needs
@@ -31,34 +53,42 @@ length-at-requires : tie.Need-length-at-requires
 length-at-requires c κs = search needs
 
 put-slot-requires-2 : tie.Need-put-slot-requires-2
+unfolding nodeAt
 put-slot-requires-2 c κs = search needs
 
 same-length-2 : tie.Need-same-length-2
 same-length-2 c = search needs
 
 returns-2 : tie.Need-returns-2
-returns-2 c = (search needs, lay-empty _ _ _ _ _ _ _ _ (c .before .before .before .before .before .before .before .before .before .slot-of .ensures .0) (c .before .before .before .before .before .before .before .before .symbol-of .ensures .0) (c .before .before .before .before .before .before .before .production-of .ensures .0) _ (search needs) (arity-at _ _ _ _ (c .before .before .before .before .before .before .before .production-of .ensures .0) (c .before .before .before .before .before .length-at .ensures .0)) (search needs) (c .before .before .put-slot2 .ensures))
+returns-2 c = lay-empty _ _ _ _ _ _ _ _ (c .before .before .before .before .before .before .before .pair .ensures .0 ∙ node-slot _ _) (c .before .before .before .before .before .before .before .before .before .before .wide .ensures .0 ∙ node-symbol _ _) (c .before .before .before .before .before .before .before .before .wide2 .ensures .0 ∙ node-production _ _) _ (search needs) (arity-at _ _ _ _ (c .before .before .before .before .before .before .before .before .wide2 .ensures .0 ∙ node-production _ _) (c .before .before .before .before .before .length-at .ensures .0)) (search needs) (c .before .before .put-slot2 .ensures)
 
 adopt-requires : tie.Need-adopt-requires
-adopt-requires c κs = search needs
+adopt-requires c κs = (search needs, search needs, ready-reach _ _ _ _ _ _ (c .before .before .before .before .before .wide2 .ensures .0 ∙ node-production _ _) (search needs) (arity-at _ _ _ _ (c .before .before .before .before .before .wide2 .ensures .0 ∙ node-production _ _) (c .before .before .length-at .ensures .0)) (search needs) (c .before .before .before .before .before .before .before .before .before .before .before .before .pre .2))
 
 put-slot-requires-3 : tie.Need-put-slot-requires-3
+unfolding nodeAt
 put-slot-requires-3 c κs = search needs
 
 same-length-3 : tie.Need-same-length-3
 same-length-3 c = search needs
 
 returns-3 : tie.Need-returns-3
-returns-3 c = (search needs, lay-inner _ _ _ _ _ _ _ _ (c .before .before .before .before .before .before .before .before .before .before .before .before .before .slot-of .ensures .0) (c .before .before .before .before .before .before .before .before .before .before .before .before .symbol-of .ensures .0) (c .before .before .before .before .before .before .before .before .before .before .before .production-of .ensures .0) _ _ _ (search needs) (arity-at _ _ _ _ (c .before .before .before .before .before .before .before .before .before .before .before .production-of .ensures .0) (c .before .before .before .before .before .before .before .before .before .length-at .ensures .0)) (search needs) (search needs) (c .before .before .before .before .before .before .adopt .ensures .0) (c .before .before .put-slot3 .ensures))
+returns-3 c = lay-inner _ _ _ _ _ _ _ _ (c .before .before .before .before .before .before .before .before .before .before .before .pair .ensures .0 ∙ node-slot _ _) (c .before .before .before .before .before .before .before .before .before .before .before .before .before .before .wide .ensures .0 ∙ node-symbol _ _) (c .before .before .before .before .before .before .before .before .before .before .before .before .wide2 .ensures .0 ∙ node-production _ _) _ _ _ (search needs) (arity-at _ _ _ _ (c .before .before .before .before .before .before .before .before .before .before .before .before .wide2 .ensures .0 ∙ node-production _ _) (c .before .before .before .before .before .before .before .before .before .length-at .ensures .0)) (search needs) (search needs) (c .before .before .before .before .before .before .adopt .ensures .0) (c .before .before .put-slot3 .ensures)
 
 pub lay-node-spec : {M : Type 1} → statement M
 lay-node-spec =
     tie.close
     (tie.spec
-    slot-of-requires
-    symbol-of-requires
-    production-of-requires
-    tag-of-requires
+    mul-at
+    shared-slice-read-wide
+    wide-requires
+    add-wide
+    shared-slice-read-wide-2
+    wide-requires-2
+    add-pair
+    pair-requires
+    add-quad
+    quad-requires
     put-slot-requires
     same-length
     returns
