@@ -1,12 +1,13 @@
--- The laws that the proofs of prepare cite: what each test on the way says of the grammar in the rows.
+-- The laws that the proofs of the calls cite: what each test on the way says of the grammar in the rows.
 use Prim.Native.Nat.{ℕ, _≤_, _<_}
 use mathlib.Core.Path.{_≡_}
 use mathlib.Core.List.{List}
-use lib.ListN.{length}
 use native.Mathlib.Omega.{arith}
+use Rattle.base.specs.Choose.{never}
 use Rattle.grammar.specs.Limits.{maxTerminals, maxNonterminals, maxProductions}
 use Rattle.grammar.specs.Grammar.{Grammar, WellFormed}
-use Rattle.grammar.specs.Derivation.{Useless}
+use Rattle.grammar.specs.Derivation.{Useless, Lowest}
+use Rattle.grammar.specs.Prediction.{Conflict}
 use Rattle.grammar.specs.Image.{Image, Bad}
 use Rattle.grammar.specs.Rows.{symbolSpace, grammarIn, rowsOf, rows-grammar}
 use Rattle.grammar.specs.Outcome.{headOf, Reads, reads-good, reads-bad}
@@ -16,17 +17,23 @@ use Rattle.sets.specs.Known.{Known}
 use Rattle.predictions.specs.Idle.{Idle, idle-lowest, idle-useful}
 use Rattle.predictions.specs.Listing.{Listed, Rowed}
 use Rattle.predictions.specs.Verdict.{rowed, low-lowest, low-ll1}
-use Rattle.tables.specs.Tables.{tablesSize, Tables}
 use Rattle.tables.specs.Outcome.{Ready}
-use Rattle.kindlesap.specs.Reply.{noCounts}
-use Rattle.kindlesap.specs.Prepare.{Judged, useless, conflict, wrong-size, prepared, Prepares, bad-image, good-image}
-use Rattle.kindlesap.specs.declared.Reply.{Reply}
-use Rattle.kindlesap.specs.declared.Reason.the-variants.{BadGrammar, UselessSymbol, NotLl1, WrongTables}
-use Rattle.kindlesap.specs.declared.Reply.the-variants.{Accepted, Refused}
+use Rattle.kindlesap.specs.Judged.{Judged, useless, conflict, fit, Opened, bad-image, good-image}
+use Rattle.replies.specs.declared.Reply.{Reply}
+use Rattle.replies.specs.declared.Reason.the-variants.{BadGrammar, UselessSymbol, NotLl1}
+use Rattle.replies.specs.declared.Reply.the-variants.{Refused}
+use Rattle.kindlesap.specs.declared.Judgement.{Judgement}
 
 -- the grammar in rows with a head
 abbrev pub headed : List ℕ → Head → Grammar
 headed rows h = grammarIn rows (h .t) (h .n) (h .start) (h .count)
+
+-- what the judgement says; on the way the words and the cells were filled
+pub data Found (rows : List ℕ) (t n start count : ℕ) (s cells : List ℕ) : Judgement → Type 0 where
+  is-fit : Ready rows t n start count s cells → Found rows t n start count s cells Judgement.Fit
+  is-useless : {M : ℕ} → Lowest (Useless (grammarIn rows t n start count)) M → Found rows t n start count s cells (Judgement.Useless M)
+  in-conflict : {M : ℕ} → ((N : ℕ) → Useless (grammarIn rows t n start count) N → ⊥) → Lowest (Conflict (grammarIn rows t n start count)) M
+      → Found rows t n start count s cells (Judgement.Conflict M)
 
 module _ (rows : List ℕ) (t n start count : ℕ) (f : WellFormed (grammarIn rows t n start count)) where
   pub bounds : (t ≤ maxTerminals) × (n ≤ maxNonterminals) × (start < symbolSpace)
@@ -37,31 +44,49 @@ module _ (rows : List ℕ) (t n start count : ℕ) (f : WellFormed (grammarIn ro
     pub have-rows : Rowed rows t count
     have-rows = rowed rows t n start count s (k n) f
 
-    pub judged-useless : (w : List ℕ) (r : ℕ) → Idle s t n r → (r ≡ 0 → ⊥) → Judged (grammarIn rows t n start count) w (Refused (UselessSymbol r)) w
+    pub found-useless : (cells : List ℕ) (r : ℕ) → Idle s t n r → (r ≡ 0 → ⊥) → Found rows t n start count s cells (Judgement.Useless r)
     unfolding grammarIn
-    judged-useless w r i z = useless (idle-lowest (k n) f i z)
+    found-useless cells r i z = is-useless (idle-lowest (k n) f i z)
 
     no-useless : {r : ℕ} → Idle s t n r → r ≡ 0 → (M : ℕ) → Useless (grammarIn rows t n start count) M → ⊥
     unfolding grammarIn
     no-useless i z = idle-useful (k n) f i z
 
     module _ (i : ℕ) (idle : Idle s t n i) (z : i ≡ 0) (cells : List ℕ) (low : ℕ) (listed : Listed rows s t count cells low) where
-      pub judged-conflict : (w : List ℕ) → (low ≡ 0 → ⊥) → Judged (grammarIn rows t n start count) w (Refused (NotLl1 low)) w
-      judged-conflict w q = conflict (no-useless idle z) (low-lowest rows t n start count s (k n) f (no-useless idle z) (listed .conflict) q)
+      pub found-conflict : (low ≡ 0 → ⊥) → Found rows t n start count s cells (Judgement.Conflict low)
+      found-conflict q = in-conflict (no-useless idle z) (low-lowest rows t n start count s (k n) f (no-useless idle z) (listed .conflict) q)
 
-      pub ready : low ≡ 0 → Ready rows t n start count s cells
-      ready q =
-          record {
+      pub found-fit : low ≡ 0 → Found rows t n start count s cells Judgement.Fit
+      found-fit q =
+          is-fit (record {
             known = k n;
             prepared = record { formed = f; useful = no-useless idle z; ll1 = low-ll1 rows t n start count s (k n) f (no-useless idle z) (listed .conflict) q };
             listed = rw q at listed;
-          }
+          })
 
-      pub judged-wrong : (w : List ℕ) → low ≡ 0 → (length w ≡ tablesSize → ⊥) → Judged (grammarIn rows t n start count) w (Refused WrongTables) w
-      judged-wrong w q l = wrong-size (ready q .prepared) l
+-- ---- from the judgement
 
-      pub judged-done : (w w' : List ℕ) → low ≡ 0 → length w ≡ tablesSize → Tables (grammarIn rows t n start count) w' → Judged (grammarIn rows t n start count) w (Accepted noCounts) w'
-      judged-done w w' q l h = prepared (ready q .prepared) l h
+pub is-ready : {rows : List ℕ} {t n start count : ℕ} {s cells : List ℕ} {r : Judgement} → Found rows t n start count s cells r → r ≡ Judgement.Fit → Ready rows t n start count s cells
+is-ready (is-fit h) e = h
+is-ready (is-useless h) e = never (cc)
+is-ready (in-conflict n h) e = never (cc)
+
+module _ (Q : Reply → List ℕ → Type 0) (w : List ℕ) where
+  pub judged-useless : {rows : List ℕ} {t n start count : ℕ} {s cells : List ℕ} {r : Judgement} (M : ℕ) → Found rows t n start count s cells r → r ≡ Judgement.Useless M
+      → Judged (grammarIn rows t n start count) Q w (Refused (UselessSymbol M)) w
+  judged-useless M (is-fit h) e = never (cc)
+  judged-useless M (is-useless {M = N} h) e = let q : N ≡ M = cc in useless (rw q at h)
+  judged-useless M (in-conflict n h) e = never (cc)
+
+  pub judged-conflict : {rows : List ℕ} {t n start count : ℕ} {s cells : List ℕ} {r : Judgement} (M : ℕ) → Found rows t n start count s cells r → r ≡ Judgement.Conflict M
+      → Judged (grammarIn rows t n start count) Q w (Refused (NotLl1 M)) w
+  judged-conflict M (is-fit h) e = never (cc)
+  judged-conflict M (is-useless h) e = never (cc)
+  judged-conflict M (in-conflict {M = N} n h) e = let q : N ≡ M = cc in conflict n (rw q at h)
+
+  pub judged-fit : {rows : List ℕ} {t n start count : ℕ} {s cells : List ℕ} {r : Judgement} (reply : Reply) (w' : List ℕ) → Found rows t n start count s cells r → r ≡ Judgement.Fit
+      → Q reply w' → Judged (grammarIn rows t n start count) Q w reply w'
+  judged-fit reply w' h e q = fit (is-ready h e .prepared) q
 
 -- ---- from the reader's answer
 
@@ -84,12 +109,12 @@ module _ (image rows : List ℕ) (r : GrammarRead) (h : Head) (x : Reads image r
   pub got-few : h .count ≤ maxProductions
   got-few = got-good h x e .few
 
-  pub prepares-good : (w w' : List ℕ) (reply : Reply) → Judged (headed rows h) w reply w' → Prepares image w reply w'
-  prepares-good w w' reply j = good-image (got-good h x e .is) j
+  pub opened-good : (Q : Grammar → Reply → List ℕ → Type 0) (w w' : List ℕ) (reply : Reply) → Judged (headed rows h) (Q (headed rows h)) w reply w' → Opened image Q w reply w'
+  opened-good Q w w' reply j = good-image (got-good h x e .is) j
 
 bad-of : {image rows : List ℕ} {r : GrammarRead} (k : ℕ) → Reads image r rows → r ≡ GrammarRead.Bad k → Bad image k
 bad-of k (reads-good G i) e = absurd (let z : _≡_ {A = ℕ} 0 1 = cc in omega arith)
 bad-of k (reads-bad {k = j} b) e = let q : j ≡ k = cc in rw q at b
 
-pub prepares-bad : (image rows w : List ℕ) (r : GrammarRead) (k : ℕ) → Reads image r rows → r ≡ GrammarRead.Bad k → Prepares image w (Refused (BadGrammar k)) w
-prepares-bad image rows w r k x e = bad-image (bad-of k x e)
+pub opened-bad : (image rows w : List ℕ) (r : GrammarRead) (k : ℕ) (Q : Grammar → Reply → List ℕ → Type 0) → Reads image r rows → r ≡ GrammarRead.Bad k → Opened image Q w (Refused (BadGrammar k)) w
+opened-bad image rows w r k Q x e = bad-image (bad-of k x e)

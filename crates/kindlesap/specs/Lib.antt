@@ -1,5 +1,6 @@
--- Meaning: the reply, and what prepare promises; no second outcome satisfies it.
-pub mod Reply
+-- Meaning: replies 1 to 3, and what the calls do.
+pub mod Judged
 pub mod Prepare
--- Laws for the code.
+pub mod Parse
+-- The laws that the proofs of the calls cite.
 pub mod Judging

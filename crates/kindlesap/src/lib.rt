@@ -1,117 +1,85 @@
-// The public calls, their reply, and their exports for C.
+// The public calls and their exports for C.
 use grammar::GrammarRead;
 use grammar::Head;
+use replies::Counts;
+use replies::Reason;
+use replies::Reply;
 ghost use mathlib.Core.Path.{_≡_};
-ghost use Prim.Native.Nat.{_+_, _<_, _≤_};
+ghost use Prim.Native.Nat.{_+_, _*_, _<_, _≤_};
 ghost use lib.ListN.{length};
-ghost use Rattle.base.specs.Bytes.{leBytes};
-ghost use Rattle.base.specs.Blocks.{copied, zeros};
+ghost use Rattle.base.specs.Blocks.{zeros};
 ghost use Rattle.grammar.specs.Limits.{maxProductions};
 ghost use Rattle.grammar.specs.Rows.{grammarIn};
 ghost use Rattle.grammar.specs.Grammar.{WellFormed};
-ghost use Rattle.kindlesap.specs.Reply.{numberOf, placeOf, countsOf, replyBytes};
-ghost use Rattle.kindlesap.specs.Prepare.{Judged, Prepares, Called};
+ghost use Rattle.sets.specs.Words.{setsSize};
+ghost use Rattle.tables.specs.Tables.{predictionsSize};
+ghost use Rattle.tables.specs.Outcome.{Ready};
+ghost use Rattle.kindlesap.specs.Judged.{Judged};
+ghost use Rattle.kindlesap.specs.Judging.{Found};
+ghost use Rattle.kindlesap.specs.Prepare.{Writes, Prepares, Called};
 
-const REPLY_SIZE: usize = 32;
-
-// "the counts total, kept, made, given up"
-pub struct Counts {
-    pub total: u32,
-    pub kept: u32,
-    pub made: u32,
-    pub given_up: u32,
+// What replies 2 and 3 say of a grammar.
+pub enum Judgement {
+    Fit,
+    Useless(usize),
+    Conflict(usize),
 }
 
-// Why a call is refused, each reason with its own place.
-pub enum Reason {
-    BadGrammar(u64),
-    UselessSymbol(u64),
-    NotLl1(u64),
-    WrongTables,
-}
-
-// "A reply is either accepted with its counts, or refused with one reason that holds its own place."
-pub enum Reply {
-    Accepted(Counts),
-    Refused(Reason),
-}
-
-fn number_of(reply: Reply) -> u64
-    ensures { λ r. ⌜ r ≡ numberOf reply ⌝ }
+// Replies 2 and 3 of the grammar in the rows; its words and its predictions on the way. The cells are zero at first.
+fn judge(
+    rows: &[u8],
+    t: usize,
+    n: usize,
+    start: usize,
+    count: usize,
+    sets: &mut [u32],
+    cells: &mut [u8],
+) -> Judgement
+    requires { ⌜ WellFormed (grammarIn (now rows) t n start count) × (count ≤ maxProductions) × (length (now sets) ≡ setsSize) × (length (now cells) ≡ predictionsSize) × (now cells ≡ zeros predictionsSize) ⌝ }
+    ensures { λ r. ⌜ Found (now (rows .entry)) t n start count (now (sets .exit)) (now (cells .exit)) r ⌝ }
 {
-    match reply {
-        Reply::Accepted(_) => 0,
-        Reply::Refused(reason) => match reason {
-            Reason::BadGrammar(_) => 1,
-            Reason::UselessSymbol(_) => 2,
-            Reason::NotLl1(_) => 3,
-            Reason::WrongTables => 4,
-        },
+    sets::analyse(rows, t, start, count, sets);
+    let idle = predictions::useless(sets, t, n);
+    if idle != 0 {
+        return Judgement::Useless(idle);
     }
-}
-
-fn place_of(reply: Reply) -> u64
-    ensures { λ r. ⌜ r ≡ placeOf reply ⌝ }
-{
-    match reply {
-        Reply::Accepted(_) => 0,
-        Reply::Refused(reason) => match reason {
-            Reason::BadGrammar(place) => place,
-            Reason::UselessSymbol(place) => place,
-            Reason::NotLl1(place) => place,
-            Reason::WrongTables => 0,
-        },
+    let low = predictions::predict(rows, t, count, sets, cells);
+    if low != 0 {
+        return Judgement::Conflict(low);
     }
+    Judgement::Fit
 }
 
-fn counts_of(reply: Reply) -> Counts
-    ensures { λ r. ⌜ r ≡ countsOf reply ⌝ }
+// Reply 4, or the tables.
+fn prepare_fit(
+    rows: &[u8],
+    t: usize,
+    n: usize,
+    start: usize,
+    count: usize,
+    sets: &[u32],
+    cells: &[u8],
+    tables: &mut [u8],
+) -> Reply
+    requires { ⌜ Ready (now rows) t n start count (now sets) (now cells) ⌝ }
+    ensures { λ r. ⌜ Writes (now (tables .entry)) (grammarIn (now (rows .entry)) t n start count) r (now (tables .exit)) ⌝ }
 {
-    match reply {
-        Reply::Accepted(counts) => counts,
-        Reply::Refused(_) => Counts {
-            total: 0,
-            kept: 0,
-            made: 0,
-            given_up: 0,
-        },
+    if tables.len() != tables::TABLES_SIZE {
+        return Reply::Refused(Reason::WrongTables);
     }
-}
-
-// Writes v in k bytes at `at`, little-endian, as much of it as fits.
-fn put(b: &mut [u8], at: usize, k: usize, v: u64)
-    requires { ⌜ at + k ≤ length (now b) ⌝ }
-    ensures { λ _. ⌜ now (b .exit) ≡ copied (now (b .entry)) at (leBytes k v) ⌝ }
-{
-    let mut x = v;
-    let mut i: usize = 0;
-    while i < k {
-        b[at + i] = (x % 256) as u8;
-        x = x / 256;
-        i += 1;
-    }
-}
-
-// Writes the reply's bytes, as much of them as fits.
-fn write_reply(reply: Reply, out: &mut [u8])
-    ensures { λ _. ⌜ now (out .exit) ≡ copied (now (out .entry)) 0 (replyBytes reply) ⌝ }
-{
-    let counts = counts_of(reply);
-    let mut b = [0u8; REPLY_SIZE];
-    put(&mut b, 0, 4, number_of(reply));
-    put(&mut b, 4, 8, place_of(reply));
-    put(&mut b, 12, 4, 0);
-    put(&mut b, 16, 4, counts.total as u64);
-    put(&mut b, 20, 4, counts.kept as u64);
-    put(&mut b, 24, 4, counts.made as u64);
-    put(&mut b, 28, 4, counts.given_up as u64);
-    base::copy(out, 0, &b);
+    tables::write_tables(rows, t, n, start, count, sets, cells, tables);
+    Reply::Accepted(Counts {
+        total: 0,
+        kept: 0,
+        made: 0,
+        given_up: 0,
+    })
 }
 
 // A grammar that was read: replies 2, 3 and 4, or its tables.
 fn prepare_read(head: Head, rows: &[u8; grammar::ROWS_SIZE], tables: &mut [u8]) -> Reply
     requires { ⌜ WellFormed (grammarIn (now rows) (head .t) (head .n) (head .start) (head .count)) × (head .count ≤ maxProductions) ⌝ }
-    ensures { λ r. ⌜ Judged (grammarIn (now (rows .entry)) (head .t) (head .n) (head .start) (head .count)) (now (tables .entry)) r (now (tables .exit)) ⌝ }
+    ensures { λ r. ⌜ Judged (grammarIn (now (rows .entry)) (head .t) (head .n) (head .start) (head .count)) (Writes (now (tables .entry)) (grammarIn (now (rows .entry)) (head .t) (head .n) (head .start) (head .count))) (now (tables .entry)) r (now (tables .exit)) ⌝ }
 {
     let t = head.t;
     let n = head.n;
@@ -119,25 +87,11 @@ fn prepare_read(head: Head, rows: &[u8; grammar::ROWS_SIZE], tables: &mut [u8]) 
     let count = head.count;
     let mut sets = [0u32; sets::SETS_SIZE];
     let mut cells = [0u8; tables::PREDICTIONS_SIZE];
-    sets::analyse(rows, t, start, count, &mut sets);
-    let idle = predictions::useless(&sets, t, n);
-    if idle != 0 {
-        return Reply::Refused(Reason::UselessSymbol(idle as u64));
+    match judge(rows, t, n, start, count, &mut sets, &mut cells) {
+        Judgement::Useless(symbol) => Reply::Refused(Reason::UselessSymbol(symbol as u64)),
+        Judgement::Conflict(symbol) => Reply::Refused(Reason::NotLl1(symbol as u64)),
+        Judgement::Fit => prepare_fit(rows, t, n, start, count, &sets, &cells, tables),
     }
-    let low = predictions::predict(rows, t, count, &sets, &mut cells);
-    if low != 0 {
-        return Reply::Refused(Reason::NotLl1(low as u64));
-    }
-    if tables.len() != tables::TABLES_SIZE {
-        return Reply::Refused(Reason::WrongTables);
-    }
-    tables::write_tables(rows, t, n, start, count, &sets, &cells, tables);
-    Reply::Accepted(Counts {
-        total: 0,
-        kept: 0,
-        made: 0,
-        given_up: 0,
-    })
 }
 
 // Prepares the tables of a grammar image.
@@ -156,5 +110,5 @@ pub extern "C" fn kindlesap_prepare(grammar: &[u8], tables: &mut [u8], reply: &m
     ensures { λ _. ⌜ Called (now (grammar .entry)) (now (tables .entry)) (now (reply .entry)) (now (tables .exit)) (now (reply .exit)) ⌝ }
 {
     let r = prepare(grammar, tables);
-    write_reply(r, reply);
+    replies::write_reply(r, reply);
 }

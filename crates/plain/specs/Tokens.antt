@@ -197,3 +197,20 @@ parts-one t (k ∷ u) (k' ∷ u') r r' (Each.cons w a) (Each.cons w' a') (Each.c
 
     same : (k k' : Token) → k .kind ≡ k' .kind → k .tag ≡ k' .tag → k ≡ k'
     same k k' e f = ap (λ (a : ℕ). record { kind = a; tag = k .tag }) e ∙ ap (λ (g : ℕ). record { kind = k' .kind; tag = g }) f
+
+pub sentence-one : {t : ℕ} {b : List ℕ} {w w' : List Token} → Sentence t b w → Sentence t b w' → w ≡ w'
+sentence-one {t} {b} {w} {w'} h k =
+    let l : 0 < tokenSize = omega arith in
+    parts-one t w w' [] [] (h .kinds) (k .kinds) (h .tags) (k .tags) (inl l) (inl l) (rw (append-nil (tokenBytes w), append-nil (tokenBytes w')) (sym (h .is) ∙ k .is)) .0
+
+pub bad-not-sentence : {t k : ℕ} {b : List ℕ} {w : List Token} → BadToken t b k → Sentence t b w → ⊥
+bad-not-sentence {t} {k} {b} {w} h s =
+    let l : 0 < tokenSize = omega arith in
+    let e : tokenBytes (h .good) ++ h .rest ≡ tokenBytes w ++ [] = rw (append-nil (tokenBytes w)) (sym (h .is) ∙ s .is) in
+    let q = parts-one t (h .good) w (h .rest) [] (h .sentence .kinds) (s .kinds) (h .sentence .tags) (s .tags) (h .bad) (inl l) e .1 in
+    omega (arith, h .some, ap length q)
+
+pub bad-token-one : {t k k' : ℕ} {b : List ℕ} → BadToken t b k → BadToken t b k' → k ≡ k'
+bad-token-one {t} h j =
+    let q = parts-one t (h .good) (j .good) (h .rest) (j .rest) (h .sentence .kinds) (j .sentence .kinds) (h .sentence .tags) (j .sentence .tags) (h .bad) (j .bad) (sym (h .is) ∙ j .is) .0 in
+    sym (h .count) ∙ ap length q ∙ j .count

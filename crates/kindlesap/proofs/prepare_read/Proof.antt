@@ -1,72 +1,82 @@
-use Rattle.kindlesap.specs.Judging.{bounds, have-rows, judged-useless, judged-conflict, ready, judged-wrong, judged-done}
 use Rattle.base.specs.Blocks.{zeros}
 use mathlib.Core.Path.{refl}
+use Rattle.kindlesap.specs.Judging.{bounds, have-rows, found-useless, found-conflict, found-fit, is-ready, judged-useless, judged-conflict, judged-fit, got-formed, got-few, opened-good, opened-bad}
+use native.Mathlib.Omega.{arith}
 use borrow.Author.Needs.{needs}
 use Rattle.kindlesap.proofs.prepare_read.Statement.{statement}
 use Rattle.kindlesap.proofs.prepare_read.Tie as tie
+use Rattle.kindlesap.proofs.prepare_read.Reads as reads
+use Rattle.kindlesap.proofs.prepare_read.Lts as lts
+use Rattle.kindlesap.proofs.judge.Reads as judge-reads
+use Rattle.kindlesap.proofs.prepare_fit.Reads as prepare-fit-reads
 
-slice-aggregate-analyse : tie.Need-slice-aggregate-analyse
-slice-aggregate-analyse c = search needs
+-- src/lib.rt:90:43
+slice-aggregate-judge : tie.Need-slice-aggregate-judge
+slice-aggregate-judge c = search needs
 
-analyse-requires : tie.Need-analyse-requires
-analyse-requires c κs = let h = bounds _ _ _ _ _ (c .before .before .before .pre .0) in search needs
+-- src/lib.rt:90:54
+slice-aggregate-judge-2 : tie.Need-slice-aggregate-judge-2
+slice-aggregate-judge-2 c = search needs
 
-slice-aggregate-useless : tie.Need-slice-aggregate-useless
-slice-aggregate-useless c = search needs
-
-useless-requires : tie.Need-useless-requires
-useless-requires c κs = let h = bounds _ _ _ _ _ (c .before .before .before .before .before .before .pre .0) in search needs
-
-returns : tie.Need-returns
-returns c = judged-useless _ _ _ _ _ (c .before .before .before .before .before .before .before .before .pre .0) _ (c .before .before .before .before .analyse .ensures) _ _ (c .before .useless .ensures) (c .if1 .taken)
-
-slice-aggregate-predict : tie.Need-slice-aggregate-predict
-slice-aggregate-predict c = search needs
-
-slice-aggregate-predict-2 : tie.Need-slice-aggregate-predict-2
-slice-aggregate-predict-2 c = search needs
-
-predict-requires : tie.Need-predict-requires
+-- src/lib.rt:90:11
+judge-requires : tie.Need-judge-requires
 unfolding zeros
-predict-requires c κs = let h = bounds _ _ _ _ _ (c .before .before .before .before .before .before .before .before .before .before .before .pre .0) in (search needs, search needs, refl, search needs, search needs, have-rows _ _ _ _ _ (c .before .before .before .before .before .before .before .before .before .before .before .pre .0) _ (c .before .before .before .before .before .before .before .analyse .ensures))
+judge-requires c κs = (c .before .before .before .before .pre .0, c .before .before .before .before .pre .1, search needs, search needs, refl)
 
+-- src/lib.rt:91:28
+enum-known-symbol : tie.Need-enum-known-symbol
+enum-known-symbol c = search needs
+
+-- src/lib.rt:92:29
+enum-known-symbol-2 : tie.Need-enum-known-symbol-2
+enum-known-symbol-2 c = search needs
+
+-- src/lib.rt:93:39
+enum-told : tie.Need-enum-told
+enum-told c = search needs
+
+-- src/lib.rt:93:65
+slice-aggregate-prepare-fit : tie.Need-slice-aggregate-prepare-fit
+slice-aggregate-prepare-fit c = search needs
+
+-- src/lib.rt:93:72
+slice-aggregate-prepare-fit-2 : tie.Need-slice-aggregate-prepare-fit-2
+slice-aggregate-prepare-fit-2 c = search needs
+
+-- src/lib.rt:93:27
+prepare-fit-requires : tie.Need-prepare-fit-requires
+prepare-fit-requires c κs = is-ready (c .before .before .before .before .before .before .before .before .judge .ensures) (search needs)
+
+-- src/lib.rt:80:1
+returns : tie.Need-returns
+returns c = judged-useless _ _ _ (c .before .before .before .before .before .judge .ensures) (search needs)
+
+-- src/lib.rt:80:1
 returns-2 : tie.Need-returns-2
-returns-2 c = judged-conflict _ _ _ _ _ (c .before .before .before .before .before .before .before .before .before .before .before .before .before .before .pre .0) _ (c .before .before .before .before .before .before .before .before .before .before .analyse .ensures) _ (c .before .before .before .before .before .before .before .useless .ensures) (c .before .before .before .before .before .before .if1 .left) _ _ (c .before .before .predict .ensures) _ (c .if2 .taken)
+returns-2 c = judged-conflict _ _ _ (c .before .before .before .before .before .judge .ensures) (search needs)
 
-returns-3 : tie.Need-returns-3
-returns-3 c = judged-wrong _ _ _ _ _ (c .before .before .before .before .before .before .before .before .before .before .before .before .before .before .before .pre .0) _ (c .before .before .before .before .before .before .before .before .before .before .before .analyse .ensures) _ (c .before .before .before .before .before .before .before .before .useless .ensures) (c .before .before .before .before .before .before .before .if1 .left) _ _ (c .before .before .before .predict .ensures) _ (c .before .if2 .left) (c .if3 .taken)
-
-slice-aggregate-write-tables : tie.Need-slice-aggregate-write-tables
-slice-aggregate-write-tables c = search needs
-
-slice-aggregate-write-tables-2 : tie.Need-slice-aggregate-write-tables-2
-slice-aggregate-write-tables-2 c = search needs
-
-write-tables-requires : tie.Need-write-tables-requires
-write-tables-requires c κs = (ready _ _ _ _ _ (c .before .before .before .before .before .before .before .before .before .before .before .before .before .before .before .before .before .before .before .pre .0) _ (c .before .before .before .before .before .before .before .before .before .before .before .before .before .before .before .analyse .ensures) _ (c .before .before .before .before .before .before .before .before .before .before .before .before .useless .ensures) (c .before .before .before .before .before .before .before .before .before .before .before .if1 .left) _ _ (c .before .before .before .before .before .before .before .predict .ensures) (c .before .before .before .before .before .if2 .left), search needs)
-
+-- src/lib.rt:80:1
 same-length : tie.Need-same-length
 same-length c = search needs
 
-returns-4 : tie.Need-returns-4
-returns-4 c = judged-done _ _ _ _ _ (c .before .before .before .before .before .before .before .before .before .before .before .before .before .before .before .before .before .before .before .before .before .before .pre .0) _ (c .before .before .before .before .before .before .before .before .before .before .before .before .before .before .before .before .before .before .analyse .ensures) _ (c .before .before .before .before .before .before .before .before .before .before .before .before .before .before .before .useless .ensures) (c .before .before .before .before .before .before .before .before .before .before .before .before .before .before .if1 .left) _ _ (c .before .before .before .before .before .before .before .before .before .before .predict .ensures) _ _ (c .before .before .before .before .before .before .before .before .if2 .left) (c .before .before .before .before .before .before .before .if3 .left) (c .before .before .write-tables .ensures)
+-- src/lib.rt:80:1
+returns-3 : tie.Need-returns-3
+returns-3 c = judged-fit _ _ _ _ (c .before .before .before .before .before .before .before .before .before .before .before .judge .ensures) (search needs) (c .before .before .prepare-fit .ensures)
 
 pub prepare-read-spec : {M : Type 1} → statement M
 prepare-read-spec =
     tie.close
     (tie.spec
-    slice-aggregate-analyse
-    analyse-requires
-    slice-aggregate-useless
-    useless-requires
+    slice-aggregate-judge
+    slice-aggregate-judge-2
+    judge-requires
+    enum-known-symbol
+    enum-known-symbol-2
+    enum-told
+    slice-aggregate-prepare-fit
+    slice-aggregate-prepare-fit-2
+    prepare-fit-requires
     returns
-    slice-aggregate-predict
-    slice-aggregate-predict-2
-    predict-requires
     returns-2
-    returns-3
-    slice-aggregate-write-tables
-    slice-aggregate-write-tables-2
-    write-tables-requires
     same-length
-    returns-4)
+    returns-3)
