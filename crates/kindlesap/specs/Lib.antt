@@ -4,3 +4,4 @@ pub mod Prepare
 pub mod Parse
 -- The laws that the proofs of the calls cite.
 pub mod Judging
+pub mod Storing

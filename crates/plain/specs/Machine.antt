@@ -134,7 +134,7 @@ pub record Done (G : Grammar) (S : ℕ) (b : List ℕ) (m o : ℕ) (w : List ℕ
   pub leaves : leavesOf (nodesFrom w o 0) ≡ tokensFrom b m 0
   pub numbered : Numbered 1 (nodesFrom w o 0)
 
-length-symbols : (rows : List ℕ) (j k i : ℕ) → length (symbolsFrom rows j k i) ≡ k
+pub length-symbols : (rows : List ℕ) (j k i : ℕ) → length (symbolsFrom rows j k i) ≡ k
 length-symbols rows j zero i = refl
 length-symbols rows j (suc k) i = ap suc (length-symbols rows j k (i + 1))
 

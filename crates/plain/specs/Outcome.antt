@@ -6,6 +6,7 @@ use mathlib.Core.List.{List}
 use lib.ListN.{length}
 use native.Mathlib.Omega.{arith}
 use Rattle.base.specs.Bytes.{byteAt, Bytes}
+use Rattle.base.specs.Choose.{never}
 use Rattle.grammar.specs.Grammar.{Grammar}
 use Rattle.plain.specs.Plain.{syntax, noRoom, Parses}
 use Rattle.plain.specs.Tokens.{tokenSize, tokensFrom, Sentence, Kinds, BadToken, sentence-of, bad-token}
@@ -23,15 +24,15 @@ pub record Counted (t : ℕ) (b : List ℕ) (m : ℕ) : Type 0 where
   pub kinds : Kinds t b m
   pub sentence : Sentence t b (tokensFrom b m 0)
 
-abbrev pub Told : ℕ → List ℕ → Tokens → Type 0
-Told t b (Good m) = Counted t b m
-Told t b (Bad k) = BadToken t b k
+pub data Told (t : ℕ) (b : List ℕ) : Tokens → Type 0 where
+  all-good : {m : ℕ} → Counted t b m → Told t b (Good m)
+  one-bad : {k : ℕ} → BadToken t b k → Told t b (Bad k)
 
 -- how a parse ended, with the nodes in w
-abbrev pub Ran : Grammar → ℕ → List ℕ → ℕ → List ℕ → Parsed → Type 0
-Ran G S b m w (Accepted o) = Done G S b m o w
-Ran G S b m w (Syntax k e) = Parses G S (tokensFrom b m 0) (syntax k e)
-Ran G S b m w NoRoom = Parses G S (tokensFrom b m 0) noRoom
+pub data Ran (G : Grammar) (S : ℕ) (b : List ℕ) (m : ℕ) (w : List ℕ) : Parsed → Type 0 where
+  ran-done : {o : ℕ} → Done G S b m o w → Ran G S b m w (Accepted o)
+  ran-wrong : {k e : ℕ} → Parses G S (tokensFrom b m 0) (syntax k e) → Ran G S b m w (Syntax k e)
+  ran-full : Parses G S (tokensFrom b m 0) noRoom → Ran G S b m w NoRoom
 
 -- after one more node
 abbrev pub Turned : Grammar → ℕ → List ℕ → ℕ → List ℕ → List ℕ → ℕ → Turn → Type 0
@@ -41,21 +42,21 @@ Turned G S b m w w' o (Over v) = Ran G S b m w' v
 -- ---- the ways through the tokens
 
 module _ (t : ℕ) (b : List ℕ) (f : Bytes b) (count i : ℕ) (e : count ≡ length b / tokenSize) (h : Kinds t b i) where
-  pub told-zero : (a : ℕ) → i < count → a ≡ byteAt b (tokenSize * i) → a ≡ 0 → BadToken t b i
-  told-zero a l q z = bad-token t b i f (omega arith) h (inr (λ w. omega (arith, w .0, q, z)))
+  pub told-zero : (a : ℕ) → i < count → a ≡ byteAt b (tokenSize * i) → a ≡ 0 → Told t b (Bad i)
+  told-zero a l q z = one-bad (bad-token t b i f (omega arith) h (inr (λ w. omega (arith, w .0, q, z))))
 
-  pub told-high : (a : ℕ) → i < count → a ≡ byteAt b (tokenSize * i) → t < a → BadToken t b i
-  told-high a l q z = bad-token t b i f (omega arith) h (inr (λ w. omega (arith, w .1, q, z)))
+  pub told-high : (a : ℕ) → i < count → a ≡ byteAt b (tokenSize * i) → t < a → Told t b (Bad i)
+  told-high a l q z = one-bad (bad-token t b i f (omega arith) h (inr (λ w. omega (arith, w .1, q, z))))
 
-  pub told-cut : count ≤ i → i ≤ count → (length b % tokenSize ≡ 0 → ⊥) → BadToken t b count
-  told-cut l m n = let q : i ≡ count = omega arith in bad-token t b count f (omega arith) (rw q at h) (inl (omega arith))
+  pub told-cut : count ≤ i → i ≤ count → (length b % tokenSize ≡ 0 → ⊥) → Told t b (Bad count)
+  told-cut l m n = let q : i ≡ count = omega arith in one-bad (bad-token t b count f (omega arith) (rw q at h) (inl (omega arith)))
 
-  pub told-good : count ≤ i → i ≤ count → length b % tokenSize ≡ 0 → Counted t b count
+  pub told-good : count ≤ i → i ≤ count → length b % tokenSize ≡ 0 → Told t b (Good count)
   told-good l m n =
       let q : i ≡ count = omega arith in
       let long : length b ≡ tokenSize * count = omega arith in
       let k : Kinds t b count = rw q at h in
-      record { long = long; kinds = k; sentence = sentence-of t b count f long k }
+      all-good (record { long = long; kinds = k; sentence = sentence-of t b count f long k })
 
 -- ---- what a turn that goes on says
 
@@ -83,3 +84,28 @@ module _ (G : Grammar) (S : ℕ) (b : List ℕ) (m : ℕ) (w w' : List ℕ) (o :
   turned-over v e = subst (Turned G S b m w w' o) e h
 
 pub ruleset turns = (turned-long, turned-low, turned-room, turned-matched, turned-at)
+
+-- ---- for the callers
+
+pub is-done : {G : Grammar} {S : ℕ} {b : List ℕ} {m : ℕ} {w : List ℕ} {r : Parsed} (o : ℕ) → Ran G S b m w r → r ≡ Accepted o → Done G S b m o w
+is-done {G} {S} {b} {m} {w} o (ran-done {o = i} d) e = let q : i ≡ o = cc in subst (λ (j : ℕ). Done G S b m j w) q d
+is-done o (ran-wrong h) e = never (cc)
+is-done o (ran-full h) e = never (cc)
+
+pub is-wrong : {G : Grammar} {S : ℕ} {b : List ℕ} {m : ℕ} {w : List ℕ} {r : Parsed} (k x : ℕ) → Ran G S b m w r → r ≡ Syntax k x → Parses G S (tokensFrom b m 0) (syntax k x)
+is-wrong k x (ran-done d) e = never (cc)
+is-wrong k x (ran-wrong {k = i} {e = y} h) e = let q : i ≡ k = cc in let z : y ≡ x = cc in rw (q, z) at h
+is-wrong k x (ran-full h) e = never (cc)
+
+pub is-full : {G : Grammar} {S : ℕ} {b : List ℕ} {m : ℕ} {w : List ℕ} {r : Parsed} → Ran G S b m w r → r ≡ NoRoom → Parses G S (tokensFrom b m 0) noRoom
+is-full (ran-done d) e = never (cc)
+is-full (ran-wrong h) e = never (cc)
+is-full (ran-full h) e = h
+
+pub is-good : {t : ℕ} {b : List ℕ} {r : Tokens} (m : ℕ) → Told t b r → r ≡ Good m → Counted t b m
+is-good {t} {b} m (all-good {m = i} c) e = let q : i ≡ m = cc in subst (Counted t b) q c
+is-good m (one-bad h) e = never (cc)
+
+pub is-bad : {t : ℕ} {b : List ℕ} {r : Tokens} (k : ℕ) → Told t b r → r ≡ Bad k → BadToken t b k
+is-bad k (all-good c) e = never (cc)
+is-bad {t} {b} k (one-bad {k = i} h) e = let q : i ≡ k = cc in subst (BadToken t b) q h

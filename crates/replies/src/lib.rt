@@ -137,10 +137,35 @@ pub fn write_reply(reply: Reply, out: &mut [u8])
     let mut b = [0u8; REPLY_SIZE];
     put(&mut b, 0, WORD_SIZE, number_of(reply));
     put(&mut b, WORD_SIZE, PLACE_SIZE, place_of(reply));
-    put(&mut b, WORD_SIZE + PLACE_SIZE, WORD_SIZE, expected_of(reply) as u64);
-    put(&mut b, 2 * WORD_SIZE + PLACE_SIZE, WORD_SIZE, counts.total as u64);
-    put(&mut b, 3 * WORD_SIZE + PLACE_SIZE, WORD_SIZE, counts.kept as u64);
-    put(&mut b, 4 * WORD_SIZE + PLACE_SIZE, WORD_SIZE, counts.made as u64);
-    put(&mut b, 5 * WORD_SIZE + PLACE_SIZE, WORD_SIZE, counts.given_up as u64);
+    put(
+        &mut b,
+        WORD_SIZE + PLACE_SIZE,
+        WORD_SIZE,
+        expected_of(reply) as u64,
+    );
+    put(
+        &mut b,
+        2 * WORD_SIZE + PLACE_SIZE,
+        WORD_SIZE,
+        counts.total as u64,
+    );
+    put(
+        &mut b,
+        3 * WORD_SIZE + PLACE_SIZE,
+        WORD_SIZE,
+        counts.kept as u64,
+    );
+    put(
+        &mut b,
+        4 * WORD_SIZE + PLACE_SIZE,
+        WORD_SIZE,
+        counts.made as u64,
+    );
+    put(
+        &mut b,
+        5 * WORD_SIZE + PLACE_SIZE,
+        WORD_SIZE,
+        counts.given_up as u64,
+    );
     base::copy(out, 0, &b);
 }

@@ -1,55 +1,38 @@
-use Rattle.kindlesap.specs.Judging.{bounds, have-rows, found-useless, found-conflict, found-fit, is-ready, judged-useless, judged-conflict, judged-fit, got-formed, got-few, opened-good, opened-bad}
-use native.Mathlib.Omega.{arith}
+use Rattle.kindlesap.specs.Judging.{bounds, have-rows, found-useless, found-conflict, found-fit}
 use borrow.Author.Needs.{needs}
 use Rattle.kindlesap.proofs.judge.Statement.{statement}
 use Rattle.kindlesap.proofs.judge.Tie as tie
-use Rattle.kindlesap.proofs.judge.Reads as reads
-use Rattle.kindlesap.proofs.judge.Lts as lts
-use Rattle.predictions.proofs.predict.Reads as predict-reads
-use Rattle.predictions.proofs.useless.Reads as useless-reads
-use Rattle.sets.proofs.analyse.Reads as analyse-reads
 
--- src/lib.rt:41:5
 analyse-requires : tie.Need-analyse-requires
 analyse-requires c κs = let h = bounds _ _ _ _ _ (c .before .before .before .before .pre .0) in search needs
 
--- src/lib.rt:42:9
 useless-requires : tie.Need-useless-requires
 useless-requires c κs = let h = bounds _ _ _ _ _ (c .before .before .before .before .before .before .before .before .pre .0) in search needs
 
--- src/lib.rt:44:9
 same-length : tie.Need-same-length
 same-length c = search needs
 
--- src/lib.rt:44:9
 returns : tie.Need-returns
 returns c = found-useless _ _ _ _ _ (c .before .before .before .before .before .before .before .before .before .before .pre .0) _ (c .before .before .before .before .before .analyse .ensures) _ _ (c .before .useless .ensures) (c .if1 .taken)
 
--- src/lib.rt:46:9
 predict-requires : tie.Need-predict-requires
 predict-requires c κs = let h = bounds _ _ _ _ _ (c .before .before .before .before .before .before .before .before .before .before .before .before .pre .0) in (search needs, search needs, search needs, search needs, search needs, have-rows _ _ _ _ _ (c .before .before .before .before .before .before .before .before .before .before .before .before .pre .0) _ (c .before .before .before .before .before .before .before .analyse .ensures))
 
--- src/lib.rt:48:9
 same-length-2 : tie.Need-same-length-2
 same-length-2 c = search needs
 
--- src/lib.rt:48:9
 same-length-3 : tie.Need-same-length-3
 same-length-3 c = search needs
 
--- src/lib.rt:48:9
 returns-2 : tie.Need-returns-2
 returns-2 c = found-conflict _ _ _ _ _ (c .before .before .before .before .before .before .before .before .before .before .before .before .before .before .before .before .pre .0) _ (c .before .before .before .before .before .before .before .before .before .before .before .analyse .ensures) _ (c .before .before .before .before .before .before .before .useless .ensures) (c .before .before .before .before .before .before .if1 .left) _ _ (c .before .before .before .predict .ensures) (c .if2 .taken)
 
--- src/lib.rt:29:1
 same-length-4 : tie.Need-same-length-4
 same-length-4 c = search needs
 
--- src/lib.rt:29:1
 same-length-5 : tie.Need-same-length-5
 same-length-5 c = search needs
 
--- src/lib.rt:29:1
 returns-3 : tie.Need-returns-3
 returns-3 c = found-fit _ _ _ _ _ (c .before .before .before .before .before .before .before .before .before .before .before .before .before .before .before .before .pre .0) _ (c .before .before .before .before .before .before .before .before .before .before .before .analyse .ensures) _ (c .before .before .before .before .before .before .before .useless .ensures) (c .before .before .before .before .before .before .if1 .left) _ _ (c .before .before .before .predict .ensures) (c .if2 .left)
 

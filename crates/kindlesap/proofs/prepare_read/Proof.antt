@@ -1,65 +1,47 @@
 use Rattle.base.specs.Blocks.{zeros}
 use mathlib.Core.Path.{refl}
-use Rattle.kindlesap.specs.Judging.{bounds, have-rows, found-useless, found-conflict, found-fit, is-ready, judged-useless, judged-conflict, judged-fit, got-formed, got-few, opened-good, opened-bad}
-use native.Mathlib.Omega.{arith}
+use Rattle.kindlesap.specs.Judging.{is-ready, judged-useless, judged-conflict, judged-fit}
 use borrow.Author.Needs.{needs}
 use Rattle.kindlesap.proofs.prepare_read.Statement.{statement}
 use Rattle.kindlesap.proofs.prepare_read.Tie as tie
-use Rattle.kindlesap.proofs.prepare_read.Reads as reads
-use Rattle.kindlesap.proofs.prepare_read.Lts as lts
-use Rattle.kindlesap.proofs.judge.Reads as judge-reads
-use Rattle.kindlesap.proofs.prepare_fit.Reads as prepare-fit-reads
 
--- src/lib.rt:90:43
 slice-aggregate-judge : tie.Need-slice-aggregate-judge
 slice-aggregate-judge c = search needs
 
--- src/lib.rt:90:54
 slice-aggregate-judge-2 : tie.Need-slice-aggregate-judge-2
 slice-aggregate-judge-2 c = search needs
 
--- src/lib.rt:90:11
 judge-requires : tie.Need-judge-requires
 unfolding zeros
 judge-requires c κs = (c .before .before .before .before .pre .0, c .before .before .before .before .pre .1, search needs, search needs, refl)
 
--- src/lib.rt:91:28
 enum-known-symbol : tie.Need-enum-known-symbol
 enum-known-symbol c = search needs
 
--- src/lib.rt:92:29
 enum-known-symbol-2 : tie.Need-enum-known-symbol-2
 enum-known-symbol-2 c = search needs
 
--- src/lib.rt:93:39
 enum-told : tie.Need-enum-told
 enum-told c = search needs
 
--- src/lib.rt:93:65
 slice-aggregate-prepare-fit : tie.Need-slice-aggregate-prepare-fit
 slice-aggregate-prepare-fit c = search needs
 
--- src/lib.rt:93:72
 slice-aggregate-prepare-fit-2 : tie.Need-slice-aggregate-prepare-fit-2
 slice-aggregate-prepare-fit-2 c = search needs
 
--- src/lib.rt:93:27
 prepare-fit-requires : tie.Need-prepare-fit-requires
 prepare-fit-requires c κs = is-ready (c .before .before .before .before .before .before .before .before .judge .ensures) (search needs)
 
--- src/lib.rt:80:1
 returns : tie.Need-returns
 returns c = judged-useless _ _ _ (c .before .before .before .before .before .judge .ensures) (search needs)
 
--- src/lib.rt:80:1
 returns-2 : tie.Need-returns-2
 returns-2 c = judged-conflict _ _ _ (c .before .before .before .before .before .judge .ensures) (search needs)
 
--- src/lib.rt:80:1
 same-length : tie.Need-same-length
 same-length c = search needs
 
--- src/lib.rt:80:1
 returns-3 : tie.Need-returns-3
 returns-3 c = judged-fit _ _ _ _ (c .before .before .before .before .before .before .before .before .before .before .before .judge .ensures) (search needs) (c .before .before .prepare-fit .ensures)
 

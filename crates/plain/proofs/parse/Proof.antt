@@ -1,3 +1,4 @@
+use Rattle.plain.specs.Outcome.{ran-done, ran-wrong}
 use Rattle.plain.specs.Machine.{Ground, At, start-small, at-start, at-end, at-rest}
 use Rattle.plain.specs.Outcome.{turns, turned-at, turned-over}
 use Rattle.grammar.specs.Rows.{grammarIn}
@@ -53,13 +54,13 @@ same-length-2 : tie.Need-same-length-2 Inv-loop μ-loop
 same-length-2 c = search needs
 
 returns-2 : tie.Need-returns-2 Inv-loop μ-loop
-returns-2 c = at-end _ _ _ _ _ _ _ _ (c .before .before .loop .inv .0) _ _ _ _ _ (search needs) (c .before .before .loop .inv .8) (search needs)
+returns-2 c = ran-done (at-end _ _ _ _ _ _ _ _ (c .before .before .loop .inv .0) _ _ _ _ _ (search needs) (c .before .before .loop .inv .8) (search needs))
 
 same-length-3 : tie.Need-same-length-3 Inv-loop μ-loop
 same-length-3 c = search needs
 
 returns-3 : tie.Need-returns-3 Inv-loop μ-loop
-returns-3 c = at-rest _ _ _ _ _ _ _ _ (c .before .before .loop .inv .0) _ _ _ _ _ (search needs) (c .before .before .loop .inv .8) (search needs)
+returns-3 c = ran-wrong (at-rest _ _ _ _ _ _ _ _ (c .before .before .loop .inv .0) _ _ _ _ _ (search needs) (c .before .before .loop .inv .8) (search needs))
 
 pub parse-spec : {M : Type 1} → statement M
 parse-spec =

@@ -1,13 +1,14 @@
+use Rattle.plain.specs.Outcome.{ran-done, ran-wrong, ran-full}
 use Rattle.plain.specs.Machine.{few, at-end, at-rest, at-leaf, at-odd, at-none, at-crowded, at-inner, low-row}
 use borrow.Author.Needs.{needs}
 use Rattle.plain.proofs.step.Statement.{statement}
 use Rattle.plain.proofs.step.Tie as tie
 
 returns : tie.Need-returns
-returns c = at-end _ _ _ _ _ _ _ _ (c .before .before .before .before .before .before .pre .0) _ _ _ _ _ (search needs) (c .before .before .before .before .before .before .pre .7) (search needs)
+returns c = ran-done (at-end _ _ _ _ _ _ _ _ (c .before .before .before .before .before .before .pre .0) _ _ _ _ _ (search needs) (c .before .before .before .before .before .before .pre .7) (search needs))
 
 returns-2 : tie.Need-returns-2
-returns-2 c = at-rest _ _ _ _ _ _ _ _ (c .before .before .before .before .before .before .pre .0) _ _ _ _ _ (search needs) (c .before .before .before .before .before .before .pre .7) (search needs)
+returns-2 c = ran-wrong (at-rest _ _ _ _ _ _ _ _ (c .before .before .before .before .before .before .pre .0) _ _ _ _ _ (search needs) (c .before .before .before .before .before .before .pre .7) (search needs))
 
 byte-at-requires : tie.Need-byte-at-requires
 byte-at-requires c κs = search needs
@@ -55,7 +56,7 @@ same-length-2 : tie.Need-same-length-2
 same-length-2 c = search needs
 
 returns-4 : tie.Need-returns-4
-returns-4 c = at-odd _ _ _ _ _ _ _ _ (c .before .before .before .before .before .before .before .before .before .before .pre .0) _ _ _ _ _ (search needs) (search needs) (search needs) (search needs) (c .before .before .before .before .before .before .before .before .before .before .pre .7) _ _ (c .before .before .before .byte-at .ensures .0) (c .before .before .byte-at2 .ensures .0) (search needs) (search needs)
+returns-4 c = ran-wrong (at-odd _ _ _ _ _ _ _ _ (c .before .before .before .before .before .before .before .before .before .before .pre .0) _ _ _ _ _ (search needs) (search needs) (search needs) (search needs) (c .before .before .before .before .before .before .before .before .before .before .pre .7) _ _ (c .before .before .before .byte-at .ensures .0) (c .before .before .byte-at2 .ensures .0) (search needs) (search needs))
 
 sub-byte-at : tie.Need-sub-byte-at
 sub-byte-at c = search needs
@@ -85,7 +86,7 @@ same-length-3 : tie.Need-same-length-3
 same-length-3 c = search needs
 
 returns-5 : tie.Need-returns-5
-returns-5 c = at-none _ _ _ _ _ _ _ _ (c .before .before .before .before .before .before .before .before .before .before .before .before .pre .0) _ _ _ _ _ (search needs) (search needs) (search needs) (search needs) (c .before .before .before .before .before .before .before .before .before .before .before .before .pre .7) _ _ (c .before .before .before .before .before .byte-at .ensures .0) (c .before .before .before .before .byte-at2 .ensures .0) (search needs) _ (c .before .before .byte-at3 .ensures .0) (search needs) _ (c .predicted .ensures)
+returns-5 c = ran-wrong (at-none _ _ _ _ _ _ _ _ (c .before .before .before .before .before .before .before .before .before .before .before .before .pre .0) _ _ _ _ _ (search needs) (search needs) (search needs) (search needs) (c .before .before .before .before .before .before .before .before .before .before .before .before .pre .7) _ _ (c .before .before .before .before .before .byte-at .ensures .0) (c .before .before .before .before .byte-at2 .ensures .0) (search needs) _ (c .before .before .byte-at3 .ensures .0) (search needs) _ (c .predicted .ensures))
 
 sub-length-at : tie.Need-sub-length-at
 sub-length-at c = search needs
@@ -106,7 +107,7 @@ same-length-4 : tie.Need-same-length-4
 same-length-4 c = search needs
 
 returns-6 : tie.Need-returns-6
-returns-6 c = at-crowded _ _ _ _ _ _ _ _ (c .before .before .before .before .before .before .before .before .before .before .before .before .before .pre .0) _ _ _ _ _ (search needs) (search needs) (search needs) (search needs) (c .before .before .before .before .before .before .before .before .before .before .before .before .before .pre .7) _ _ (c .before .before .before .before .before .before .byte-at .ensures .0) (c .before .before .before .before .before .byte-at2 .ensures .0) (search needs) _ (c .before .before .before .byte-at3 .ensures .0) (search needs) (search needs)
+returns-6 c = ran-full (at-crowded _ _ _ _ _ _ _ _ (c .before .before .before .before .before .before .before .before .before .before .before .before .before .pre .0) _ _ _ _ _ (search needs) (search needs) (search needs) (search needs) (c .before .before .before .before .before .before .before .before .before .before .before .before .before .pre .7) _ _ (c .before .before .before .before .before .before .byte-at .ensures .0) (c .before .before .before .before .before .byte-at2 .ensures .0) (search needs) _ (c .before .before .before .byte-at3 .ensures .0) (search needs) (search needs))
 
 add-top : tie.Need-add-top
 add-top c = search needs
