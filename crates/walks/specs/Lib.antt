@@ -1,0 +1,7 @@
+-- The fields of a slot, and the walk of an area as a relation.
+pub mod Slots
+pub mod Frames
+-- Which slots were visited, how the walk goes on, and what it finds.
+pub mod Marks
+pub mod Going
+pub mod Reading

@@ -1,0 +1,116 @@
+-- The fields of a slot, read off its bytes: bytes that are a used slot's have these fields, and bytes with the mark and the two zeros are a used slot's.
+use Prim.Native.Nat.{ℕ, zero, suc, _+_, _-_, _*_, _≤_, _<_}
+use mathlib.Core.Path.{_≡_, refl, sym, ap, _∙_}
+use mathlib.Core.List.{List}
+use lib.ListN.{length, drop, length-take, length-drop}
+use lib.Seq.{getD-take, getD-drop, ext-getD}
+use native.Mathlib.Omega.{arith}
+use Rattle.base.specs.Bytes.{byteAt, get16, leBytes}
+use Rattle.base.specs.Blocks.{zeros}
+use Rattle.trees.specs.Area.{slotSize, tagSpace, slotBytes, slotAt}
+use Rattle.trees.specs.Coded.{get32}
+
+-- of slot s: its symbol, production, parent, first child, next sibling and tag
+abbrev pub symbolIn : List ℕ → ℕ → ℕ
+symbolIn b s = byteAt b (slotSize * s + 2)
+
+abbrev pub productionIn : List ℕ → ℕ → ℕ
+productionIn b s = byteAt b (slotSize * s + 3)
+
+abbrev pub parentIn : List ℕ → ℕ → ℕ
+parentIn b s = get16 b (slotSize * s + 4)
+
+abbrev pub firstIn : List ℕ → ℕ → ℕ
+firstIn b s = get16 b (slotSize * s + 6)
+
+abbrev pub nextIn : List ℕ → ℕ → ℕ
+nextIn b s = get16 b (slotSize * s + 8)
+
+abbrev pub tagIn : List ℕ → ℕ → ℕ
+tagIn b s = get32 b (slotSize * s + 10)
+
+-- byte i of slot s
+pub slot-byte : (b : List ℕ) (s i : ℕ) → i < slotSize → byteAt b (slotSize * s + i) ≡ byteAt (slotAt b s) i
+slot-byte b s i l = sym (getD-take slotSize (drop (slotSize * s) b) i 0 l ∙ getD-drop (slotSize * s) b i 0)
+
+-- slot s has these fields
+pub record Fields (b : List ℕ) (s x p par f n g : ℕ) : Type 0 where
+  pub symbol : symbolIn b s ≡ x
+  pub production : productionIn b s ≡ p
+  pub parent : par < 65536 → parentIn b s ≡ par
+  pub first : f < 65536 → firstIn b s ≡ f
+  pub next : n < 65536 → nextIn b s ≡ n
+  pub tag : g < tagSpace → tagIn b s ≡ g
+  pub mark : byteAt b (slotSize * s) ≡ 0x4E
+  pub mark' : byteAt b (slotSize * s + 1) ≡ 0x44
+  pub spare : byteAt b (slotSize * s + 14) ≡ 0
+  pub spare' : byteAt b (slotSize * s + 15) ≡ 0
+
+pub fields : (b : List ℕ) (s : ℕ) {x p par f n g : ℕ} → slotAt b s ≡ slotBytes x p par f n g → Fields b s x p par f n g
+unfolding slotBytes leBytes zeros
+fields b s {x} {p} {par} {f} {n} {g} h =
+    let y : (i j : ℕ) → i < slotSize → j ≡ slotSize * s + i → byteAt b j ≡ byteAt (slotBytes x p par f n g) i =
+    λ i j l e. ap (byteAt b) e ∙ slot-byte b s i l ∙ ap (λ (u : List ℕ). byteAt u i) h
+    in
+    let y4 = y 4 (slotSize * s + 4) (omega arith) (omega arith) in
+    let y5 = y 5 (slotSize * s + 4 + 1) (omega arith) (omega arith) in
+    let y6 = y 6 (slotSize * s + 6) (omega arith) (omega arith) in
+    let y7 = y 7 (slotSize * s + 6 + 1) (omega arith) (omega arith) in
+    let y8 = y 8 (slotSize * s + 8) (omega arith) (omega arith) in
+    let y9 = y 9 (slotSize * s + 8 + 1) (omega arith) (omega arith) in
+    let z0 = y 10 (slotSize * s + 10) (omega arith) (omega arith) in
+    let z1 = y 11 (slotSize * s + 10 + 1) (omega arith) (omega arith) in
+    let z2 = y 12 (slotSize * s + 10 + 2) (omega arith) (omega arith) in
+    let z3 = y 13 (slotSize * s + 10 + 3) (omega arith) (omega arith) in
+    record {
+      symbol = y 2 (slotSize * s + 2) (omega arith) (omega arith);
+      production = y 3 (slotSize * s + 3) (omega arith) (omega arith);
+      parent = λ l. omega (arith, y4, y5, l);
+      first = λ l. omega (arith, y6, y7, l);
+      next = λ l. omega (arith, y8, y9, l);
+      tag = λ l. omega (arith, z0, z1, z2, z3, l);
+      mark = y 0 (slotSize * s) (omega arith) (omega arith);
+      mark' = y 1 (slotSize * s + 1) (omega arith) (omega arith);
+      spare = y 14 (slotSize * s + 14) (omega arith) (omega arith);
+      spare' = y 15 (slotSize * s + 15) (omega arith) (omega arith);
+    }
+
+-- every byte is one
+pub record Known (b : List ℕ) : Type 0 where
+  pub small : (i : ℕ) → byteAt b i < 256
+
+-- slot s is a used one, with the fields that are read there
+pub record Used (b : List ℕ) (s : ℕ) : Type 0 where
+  pub is : slotAt b s ≡ slotBytes (symbolIn b s) (productionIn b s) (parentIn b s) (firstIn b s) (nextIn b s) (tagIn b s)
+
+pub slot-used : (b : List ℕ) (s : ℕ) → Known b → slotSize * s + slotSize ≤ length b → byteAt b (slotSize * s) ≡ 0x4E → byteAt b (slotSize * s + 1) ≡ 0x44
+    → byteAt b (slotSize * s + 14) ≡ 0 → byteAt b (slotSize * s + 15) ≡ 0 → Used b s
+unfolding slotBytes leBytes zeros
+slot-used b s k l m m' z z' =
+    record {
+      is = ext-getD 0 (slotAt b s) (slotBytes (symbolIn b s) (productionIn b s) (parentIn b s) (firstIn b s) (nextIn b s) (tagIn b s))
+          (omega (arith, length-take slotSize (drop (slotSize * s) b), length-drop (slotSize * s) b))
+          (λ i w. sym (slot-byte b s i (omega (arith, length-take slotSize (drop (slotSize * s) b)))) ∙ at i (omega (arith, length-take slotSize (drop (slotSize * s) b))));
+    }
+  where
+    same : (j j' : ℕ) → j ≡ j' → byteAt b j ≡ byteAt b j'
+    same j j' e = ap (byteAt b) e
+
+    at : (i : ℕ) → i < slotSize → byteAt b (slotSize * s + i) ≡ byteAt (slotBytes (symbolIn b s) (productionIn b s) (parentIn b s) (firstIn b s) (nextIn b s) (tagIn b s)) i
+    at zero w = same (slotSize * s + 0) (slotSize * s) (omega arith) ∙ m
+    at (suc zero) w = m'
+    at (suc (suc zero)) w = refl
+    at (suc (suc (suc zero))) w = refl
+    at (suc (suc (suc (suc zero)))) w = omega (arith, k .small (slotSize * s + 4))
+    at (suc (suc (suc (suc (suc zero))))) w = same (slotSize * s + 5) (slotSize * s + 4 + 1) (omega arith) ∙ omega (arith, k .small (slotSize * s + 4), k .small (slotSize * s + 4 + 1))
+    at (suc (suc (suc (suc (suc (suc zero)))))) w = omega (arith, k .small (slotSize * s + 6))
+    at (suc (suc (suc (suc (suc (suc (suc zero))))))) w = same (slotSize * s + 7) (slotSize * s + 6 + 1) (omega arith) ∙ omega (arith, k .small (slotSize * s + 6), k .small (slotSize * s + 6 + 1))
+    at (suc (suc (suc (suc (suc (suc (suc (suc zero)))))))) w = omega (arith, k .small (slotSize * s + 8))
+    at (suc (suc (suc (suc (suc (suc (suc (suc (suc zero))))))))) w = same (slotSize * s + 9) (slotSize * s + 8 + 1) (omega arith) ∙ omega (arith, k .small (slotSize * s + 8), k .small (slotSize * s + 8 + 1))
+    at (suc (suc (suc (suc (suc (suc (suc (suc (suc (suc zero)))))))))) w = omega (arith, k .small (slotSize * s + 10))
+    at (suc (suc (suc (suc (suc (suc (suc (suc (suc (suc (suc zero))))))))))) w = same (slotSize * s + 11) (slotSize * s + 10 + 1) (omega arith) ∙ omega (arith, k .small (slotSize * s + 10), k .small (slotSize * s + 10 + 1))
+    at (suc (suc (suc (suc (suc (suc (suc (suc (suc (suc (suc (suc zero)))))))))))) w = same (slotSize * s + 12) (slotSize * s + 10 + 2) (omega arith) ∙ omega (arith, k .small (slotSize * s + 10), k .small (slotSize * s + 10 + 1), k .small (slotSize * s + 10 + 2))
+    at (suc (suc (suc (suc (suc (suc (suc (suc (suc (suc (suc (suc (suc zero))))))))))))) w = same (slotSize * s + 13) (slotSize * s + 10 + 3) (omega arith) ∙ omega (arith, k .small (slotSize * s + 10), k .small (slotSize * s + 10 + 1), k .small (slotSize * s + 10 + 2), k .small (slotSize * s + 10 + 3))
+    at (suc (suc (suc (suc (suc (suc (suc (suc (suc (suc (suc (suc (suc (suc zero)))))))))))))) w = z
+    at (suc (suc (suc (suc (suc (suc (suc (suc (suc (suc (suc (suc (suc (suc (suc zero))))))))))))))) w = z'
+    at (suc (suc (suc (suc (suc (suc (suc (suc (suc (suc (suc (suc (suc (suc (suc (suc i)))))))))))))))) w = absurd (omega arith)
