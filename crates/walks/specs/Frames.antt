@@ -78,6 +78,10 @@ module _ {G : Grammar} {b : List ℕ} {f : Frame} where
       let w = rule-one (rw o at r) r' .1 in
       record { node = cc; under = cc; behind = cc }
 
+  pub stands-some : {u v : Frame} {e : Node} → Stands G b f e u v → f .symbols ≡ [] → ⊥
+  stands-some (Stands.leaf i t h n g) z = never (cc)
+  stands-some (Stands.node i r h m n) z = never (cc)
+
   pub stands-slot : {u v : Frame} {e : Node} → Stands G b f e u v → e .slot ≡ f .slot
   stands-slot (Stands.leaf i t h n g) = refl
   stands-slot (Stands.node i r h m n) = refl

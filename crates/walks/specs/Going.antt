@@ -10,7 +10,7 @@ use Rattle.grammar.specs.Each.{Each, each-head, each-tail}
 use Rattle.grammar.specs.Grammar.{Grammar}
 use Rattle.trees.specs.Area.{Distinct}
 use Rattle.trees.specs.Nodes.{Node}
-use Rattle.walks.specs.Frames.{Frame, Within, Stands, Walks, stands-one, stands-slot}
+use Rattle.walks.specs.Frames.{Frame, Within, Stands, Walks, stands-one, stands-some, stands-slot}
 use Rattle.walks.specs.Marks.{slotsOf, Marked, marked-twice}
 
 -- siblings wait in the frame
@@ -170,3 +170,12 @@ module _ {G : Grammar} {S : ℕ} {b : List ℕ} where
     where
       none : {ks : List Node} → Walks G S b [] ks → ks ≡ []
       none Walks.nil = refl
+
+  -- a frame with a slot and no siblings cannot be walked, wherever it stands
+  pub blocked : {gs : List Frame} {es : List Node} (fs : List Frame) (v : Frame) → (v .slot ≡ 0 → ⊥) → v .symbols ≡ [] → Walks G S b gs es → (us : List Frame) → gs ≡ us ++ (v ∷ fs) → ⊥
+  blocked fs v z y Walks.nil [] q = never (cc)
+  blocked fs v z y Walks.nil (u ∷ us) q = never (cc)
+  blocked fs v z y (Walks.none {f = f} i j h) [] q = let e : f ≡ v = cc in z (rw e at i)
+  blocked fs v z y (Walks.none {fs = gs} i j h) (u ∷ us) q = let o : gs ≡ us ++ (v ∷ fs) = cc in blocked fs v z y h us o
+  blocked fs v z y (Walks.visit {f = f} w s h) [] q = let e : f ≡ v = cc in stands-some s (rw (← e) at y)
+  blocked fs v z y (Walks.visit {f = f} {u = m} {v = k} {fs = gs} w s h) (u ∷ us) q = let o : m ∷ k ∷ gs ≡ m ∷ k ∷ (us ++ (v ∷ fs)) = cc in blocked fs v z y h (m ∷ k ∷ us) o

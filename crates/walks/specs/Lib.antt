@@ -5,3 +5,8 @@ pub mod Frames
 pub mod Marks
 pub mod Going
 pub mod Reading
+-- The frames in bytes, and the code.
+pub mod Judging
+pub mod Stacked
+pub mod Pushing
+pub mod Turning

@@ -6,6 +6,8 @@ use lib.ListN.{length, drop, length-take, length-drop}
 use lib.Seq.{getD-take, getD-drop, ext-getD}
 use native.Mathlib.Omega.{arith}
 use Rattle.base.specs.Bytes.{byteAt, get16, leBytes}
+use mathlib.Core.Bool.{false}
+use Rattle.base.specs.Tells.{Tells, tells-no}
 use Rattle.base.specs.Blocks.{zeros}
 use Rattle.trees.specs.Area.{slotSize, tagSpace, slotBytes, slotAt}
 use Rattle.trees.specs.Coded.{get32}
@@ -83,6 +85,9 @@ pub record Known (b : List ℕ) : Type 0 where
 pub record Used (b : List ℕ) (s : ℕ) : Type 0 where
   pub is : slotAt b s ≡ slotBytes (symbolIn b s) (productionIn b s) (parentIn b s) (firstIn b s) (nextIn b s) (tagIn b s)
 
+pub fields-used : {b : List ℕ} {s x p par f n g : ℕ} → Fields b s x p par f n g → par < 65536 → f < 65536 → n < 65536 → g < tagSpace → slotAt b s ≡ slotBytes x p par f n g → Used b s
+fields-used y i j k l h = record { is = rw (y .symbol, y .production, y .parent i, y .first j, y .next k, y .tag l) h }
+
 pub slot-used : (b : List ℕ) (s : ℕ) → Known b → slotSize * s + slotSize ≤ length b → byteAt b (slotSize * s) ≡ 0x4E → byteAt b (slotSize * s + 1) ≡ 0x44
     → byteAt b (slotSize * s + 14) ≡ 0 → byteAt b (slotSize * s + 15) ≡ 0 → Used b s
 unfolding slotBytes leBytes zeros
@@ -114,3 +119,19 @@ slot-used b s k l m m' z z' =
     at (suc (suc (suc (suc (suc (suc (suc (suc (suc (suc (suc (suc (suc (suc zero)))))))))))))) w = z
     at (suc (suc (suc (suc (suc (suc (suc (suc (suc (suc (suc (suc (suc (suc (suc zero))))))))))))))) w = z'
     at (suc (suc (suc (suc (suc (suc (suc (suc (suc (suc (suc (suc (suc (suc (suc (suc i)))))))))))))))) w = absurd (omega arith)
+
+-- what the tests of a slot's mark and zeros tell
+module _ (b : List ℕ) (s : ℕ) where
+  pub unmarked : (byteAt b (slotSize * s) ≡ 0x4E → ⊥) → Tells (Used b s) false
+  unmarked n = tells-no (λ h. n (fields b s (h .is) .mark))
+
+  pub unmarked' : (byteAt b (slotSize * s + 1) ≡ 0x44 → ⊥) → Tells (Used b s) false
+  unmarked' n = tells-no (λ h. n (fields b s (h .is) .mark'))
+
+  pub spoilt : (byteAt b (slotSize * s + 14) ≡ 0 → ⊥) → Tells (Used b s) false
+  spoilt n = tells-no (λ h. n (fields b s (h .is) .spare))
+
+  pub spoilt' : (byteAt b (slotSize * s + 15) ≡ 0 → ⊥) → Tells (Used b s) false
+  spoilt' n = tells-no (λ h. n (fields b s (h .is) .spare'))
+
+pub ruleset unused = (unmarked, unmarked', spoilt, spoilt')
