@@ -10,3 +10,4 @@ pub mod Judging
 pub mod Stacked
 pub mod Pushing
 pub mod Turning
+pub mod Walking

@@ -41,7 +41,7 @@ slots-preorder Forest.nil = refl
 slots-preorder (Forest.leaf s a g r) = ap (λ (l : List ℕ). s ∷ l) (slots-preorder r)
 slots-preorder (Forest.node s M p k r) = rw (slots-append (preorder k) (preorder r), slots-preorder k, slots-preorder r)
 
-leaf-none : (p : ℕ) → (p ≡ 0 → ⊥) → leafOf p ≡ 0
+pub leaf-none : (p : ℕ) → (p ≡ 0 → ⊥) → leafOf p ≡ 0
 leaf-none zero n = absurd (n refl)
 leaf-none (suc p) n = refl
 

@@ -7,6 +7,8 @@ ghost use Rattle.base.specs.Tells.{Tells};
 ghost use Rattle.trees.specs.Area.{slotSize, maxSlots, areaSize, tagSpace};
 ghost use Rattle.walks.specs.Frames.{Within};
 ghost use Rattle.walks.specs.Turning.{Turned};
+ghost use Rattle.walks.specs.Reading.{leafOf};
+ghost use Rattle.walks.specs.Walking.{Wandered};
 ghost use Rattle.trees.specs.Coded.{nodeSize, get32};
 ghost use Rattle.walks.specs.Slots.{Used};
 ghost use Rattle.grammar.specs.Rows.{bodySpace};
@@ -22,6 +24,12 @@ const FRAME_SIZE: usize = 6;
 enum Step {
     On(usize),
     Stop,
+}
+
+// The walk ended with so many nodes and leaves, or there is none.
+enum Course {
+    Through(usize, usize),
+    Astray,
 }
 
 // The two-byte number at `at`.
@@ -235,4 +243,60 @@ fn turn(
         return Step::Stop;
     }
     settle(area, slots, w, i, k, s, par, p, j + 1, len - j - 1, kids)
+}
+
+// 1 for a leaf.
+fn leaf_of(p: usize) -> usize
+    ensures { λ r. ⌜ (r ≡ leafOf p) × (r ≤ 1) ⌝ }
+{
+    if p == 0 {
+        return 1;
+    }
+    0
+}
+
+// Walks the area from its root, and writes the nodes that it visits; `marks` tells which slots they are.
+fn walk(
+    area: &[u8],
+    slots: usize,
+    rows: &[u8],
+    t: usize,
+    n: usize,
+    start: usize,
+    count: usize,
+    w: &mut [u8],
+    marks: &mut [u8],
+) -> Course
+    requires { ⌜ (slots ≤ maxSlots) × (length (now area) ≡ areaSize slots) × (workSize slots ≤ length (now w)) × (slots < length (now marks)) ⌝ }
+    ensures { λ r. ⌜ Wandered (now (rows .entry)) t n start count slots (now (area .entry)) (now (w .exit)) (now (marks .exit)) r ⌝ }
+{
+    base::zero(marks);
+    put_frame(w, trees::NODE_SIZE * slots, two(area, 2), 0, 0, 0);
+    let mut i: usize = 0;
+    let mut k: usize = 1;
+    let mut leaves: usize = 0;
+    while 0 < k {
+        k -= 1;
+        let s = two(w, trees::NODE_SIZE * slots + FRAME_SIZE * k);
+        if s == 0 {
+            return Course::Astray;
+        }
+        if slots < s {
+            return Course::Astray;
+        }
+        if marks[s] != 0 {
+            return Course::Astray;
+        }
+        if i == slots {
+            return Course::Astray;
+        }
+        marks[s] = 1;
+        let Step::On(more) = turn(area, slots, rows, t, n, start, count, w, i, k) else {
+            return Course::Astray;
+        };
+        k = more;
+        leaves += leaf_of(trees::production_of(w, i));
+        i += 1;
+    }
+    Course::Through(i, leaves)
 }
