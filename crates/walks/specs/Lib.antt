@@ -11,3 +11,4 @@ pub mod Stacked
 pub mod Pushing
 pub mod Turning
 pub mod Walking
+pub mod Closing

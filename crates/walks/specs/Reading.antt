@@ -12,7 +12,7 @@ use Rattle.grammar.specs.Grammar.{Grammar}
 use Rattle.grammar.specs.Forest.{Forest, size, yield, Derives}
 use Rattle.trees.specs.Area.{slotSize, maxSlots, areaSize, headerBytes, slotAt, top, slots, Distinct, Linked, Area, Valid}
 use Rattle.trees.specs.Nodes.{Node, preorder}
-use Rattle.walks.specs.Slots.{slot-byte}
+use Rattle.trees.specs.Slots.{slot-byte}
 use Rattle.walks.specs.Frames.{Frame, frame, Within, Walks, Grown, walks-grown, linked-walks, linked-one, rule-positive, top-small}
 use Rattle.walks.specs.Marks.{slotsOf, slots-append, pigeon}
 
@@ -51,7 +51,7 @@ leaves-preorder (Derives.leaf t d) = omega (arith, leaves-preorder d)
 leaves-preorder (Derives.node {p = p} {k = k} {r = r} t dk d) =
     omega (arith, leaf-none p (rule-positive t), leaves-append (preorder k) (preorder r), length-append (yield k) (yield r), leaves-preorder dk, leaves-preorder d)
 
-leaves-few : (es : List Node) → leavesOf es ≤ length es
+pub leaves-few : (es : List Node) → leavesOf es ≤ length es
 leaves-few [] = omega arith
 leaves-few (e ∷ es) = omega (arith, few (e .production), leaves-few es)
   where
@@ -70,7 +70,7 @@ pub record Header (b : List ℕ) (r n k : ℕ) : Type 0 where
 pub header-says : (b : List ℕ) {root used tokens : ℕ} → root < 65536 → used < 65536 → tokens < 65536 → slotAt b 0 ≡ headerBytes root used tokens → Header b root used tokens
 unfolding headerBytes leBytes
 header-says b {root} {used} {tokens} r u t h =
-    let y : (i : ℕ) → i < slotSize → byteAt b (slotSize * 0 + i) ≡ byteAt (headerBytes root used tokens) i = λ i l. slot-byte b 0 i l ∙ ap (λ (w : List ℕ). byteAt w i) h in
+    let y : (i : ℕ) → i < slotSize → byteAt b (slotSize * 0 + i) ≡ byteAt (headerBytes root used tokens) i = λ i l. sym (slot-byte b 0 i l) ∙ ap (λ (w : List ℕ). byteAt w i) h in
     record {
       root = omega (arith, r, y 2 (omega arith), y 3 (omega arith));
       used = omega (arith, u, y 4 (omega arith), y 5 (omega arith));

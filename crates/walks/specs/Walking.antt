@@ -1,7 +1,7 @@
 -- The walk's loop: the nodes written and the frames that wait, the marks and the leaves counted, at the start, after a turn, and at the end.
 use Prim.Native.Nat.{ℕ, zero, suc, _+_, _-_, _*_, _≤_, _<_}
 use mathlib.Core.Path.{_≡_, refl, sym, ap, subst, _∙_}
-use mathlib.Core.List.{List, [], _∷_, _++_}
+use mathlib.Core.List.{List, [], _∷_}
 use lib.ListN.{length, set}
 use native.Mathlib.Omega.{arith}
 use Rattle.base.specs.Choose.{never}
@@ -22,7 +22,7 @@ use Rattle.walks.specs.Reading.{leafOf, leavesOf, leaves-append, rootFra
 use Rattle.walks.specs.Stacked.{placeOf, bodyOf, frameAt, framesIn, Framed}
 use Rattle.walks.specs.Turning.{Turned}
 
-length-nodes : (w : List ℕ) (k i : ℕ) → length (nodesFrom w k i) ≡ k
+pub length-nodes : (w : List ℕ) (k i : ℕ) → length (nodesFrom w k i) ≡ k
 length-nodes w zero i = refl
 length-nodes w (suc k) i = ap suc (length-nodes w k (i + 1))
 

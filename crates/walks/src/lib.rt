@@ -11,7 +11,8 @@ ghost use Rattle.walks.specs.Reading.{leafOf};
 ghost use Rattle.walks.specs.Walking.{Wandered};
 ghost use Rattle.trees.specs.Coded.{nodeSize, get32};
 ghost use Rattle.walks.specs.Slots.{Used};
-ghost use Rattle.grammar.specs.Rows.{bodySpace};
+ghost use Rattle.grammar.specs.Rows.{bodySpace, grammarIn};
+ghost use Rattle.walks.specs.Closing.{Heads, Clear, ClearTo, Reads};
 ghost use Rattle.walks.specs.Judging.{Kin, Judged};
 ghost use Rattle.walks.specs.Stacked.{frameSize, placeOf, workSize, lengthOf, bodyOf, Framed};
 ghost use Rattle.walks.specs.Pushing.{Pushed, Settled};
@@ -19,6 +20,12 @@ ghost use Rattle.walks.specs.Pushing.{Pushed, Settled};
 const SLOT_SIZE: usize = 16;
 
 const FRAME_SIZE: usize = 6;
+
+// The area is the tree of so many nodes, or it is no valid tree.
+pub enum Walked {
+    Tree(usize),
+    NoTree,
+}
 
 // The walk goes on with so many frames, or it stops.
 enum Step {
@@ -299,4 +306,79 @@ fn walk(
         i += 1;
     }
     Course::Through(i, leaves)
+}
+
+// Whether the header has its mark and zeros, and says so many nodes and tokens.
+fn heads(area: &[u8], used: usize, tokens: usize) -> bool
+    requires { ⌜ (slotSize ≤ length (now area)) × (used < 65536) × (tokens < 65536) ⌝ }
+    ensures { λ r. ⌜ Tells (Heads (now (area .entry)) used tokens) r ⌝ }
+{
+    if area[0] != 0x54 {
+        return false;
+    }
+    if area[1] != 0x52 {
+        return false;
+    }
+    if two(area, 4) != used {
+        return false;
+    }
+    if two(area, 6) != tokens {
+        return false;
+    }
+    base::all_zero(&area[8..16])
+}
+
+// Whether slot s was visited, or is zero.
+fn clear(area: &[u8], marks: &[u8], s: usize) -> bool
+    requires { ⌜ (slotSize * s + slotSize ≤ length (now area)) × (s < length (now marks)) ⌝ }
+    ensures { λ r. ⌜ Tells (Clear (now (area .entry)) (now (marks .entry)) s) r ⌝ }
+{
+    if marks[s] != 0 {
+        return true;
+    }
+    let at = SLOT_SIZE * s;
+    base::all_zero(&area[at..at + SLOT_SIZE])
+}
+
+// Whether every slot is.
+fn all_clear(area: &[u8], marks: &[u8], slots: usize) -> bool
+    requires { ⌜ (slots ≤ maxSlots) × (length (now area) ≡ areaSize slots) × (slots < length (now marks)) ⌝ }
+    ensures { λ r. ⌜ Tells (ClearTo (now (area .entry)) (now (marks .entry)) (slots + 1)) r ⌝ }
+{
+    let mut s: usize = 1;
+    while s <= slots {
+        if clear(area, marks, s) {
+            s += 1;
+            continue;
+        }
+        return false;
+    }
+    true
+}
+
+// Walks an area of whatever bytes back into the list of its nodes, at the beginning of `work`, or finds that it is no valid tree of the grammar in the rows.
+pub fn read_tree(
+    area: &[u8],
+    slots: usize,
+    rows: &[u8],
+    t: usize,
+    n: usize,
+    start: usize,
+    count: usize,
+    work: &mut [u8],
+    draft: &mut [u8],
+) -> Walked
+    requires { ⌜ (1 ≤ slots) × (slots ≤ maxSlots) × (length (now area) ≡ areaSize slots) × (workSize slots ≤ length (now work)) × (slots < length (now draft)) ⌝ }
+    ensures { λ r. ⌜ Reads (grammarIn (now (rows .entry)) t n start count) slots (now (area .entry)) (now (work .exit)) r ⌝ }
+{
+    let Course::Through(nodes, leaves) = walk(area, slots, rows, t, n, start, count, work, draft)
+    else {
+        return Walked::NoTree;
+    };
+    if heads(area, nodes, leaves) {
+        if all_clear(area, draft, slots) {
+            return Walked::Tree(nodes);
+        }
+    }
+    Walked::NoTree
 }

@@ -7,17 +7,8 @@ use Rattle.trees.specs.Area.{maxSlots, areaSize}
 use Rattle.walks.specs.Stacked.{workSize}
 use Rattle.walks.specs.Walking.{Walking}
 use borrow.Author.Needs.{needs}
-use native.Mathlib.Omega.{arith}
 use Rattle.walks.proofs.walk.Statement.{statement}
 use Rattle.walks.proofs.walk.Tie as tie
-use Rattle.walks.proofs.walk.Reads as reads
-use Rattle.walks.proofs.walk.Lts as lts
-use Rattle.base.proofs.zero.Reads as zero-reads
-use Rattle.trees.proofs.production_of.Reads as production-of-reads
-use Rattle.walks.proofs.leaf_of.Reads as leaf-of-reads
-use Rattle.walks.proofs.put_frame.Reads as put-frame-reads
-use Rattle.walks.proofs.turn.Reads as turn-reads
-use Rattle.walks.proofs.two.Reads as two-reads
 
 abbrev Inv-loop : tie.InvT-loop
 Inv-loop area slots rows t n start count w₀ marks₀ i₀ k₀ leaves₀ w marks i k leaves = (slots ≤ maxSlots) × (length area ≡ areaSize slots) × (workSize slots ≤ length w) × (slots < length marks) × (length w ≡ length w₀) × (length marks ≡ length marks₀) × (i ≤ slots) × (k ≤ i + 1) × (leaves ≤ i) × Walking rows t n start count slots area w marks i k leaves
@@ -25,159 +16,120 @@ Inv-loop area slots rows t n start count w₀ marks₀ i₀ k₀ leaves₀ w mar
 abbrev μ-loop : tie.MeasureT-loop
 μ-loop area slots rows t n start count w₀ marks₀ i₀ k₀ leaves₀ w marks i k leaves = slots - i
 
--- src/lib.rt:273:5
 zero-requires : tie.Need-zero-requires Inv-loop μ-loop
 zero-requires c κs = search needs
 
--- src/lib.rt:274:18
 mul-put-frame : tie.Need-mul-put-frame Inv-loop μ-loop
 mul-put-frame c = search needs
 
--- src/lib.rt:274:44
 two-requires : tie.Need-two-requires Inv-loop μ-loop
 two-requires c κs = search needs
 
--- src/lib.rt:274:5
 put-frame-requires : tie.Need-put-frame-requires Inv-loop μ-loop
 put-frame-requires c κs = search needs
 
--- src/lib.rt:278:5
 loop-holds : tie.Need-loop-holds Inv-loop μ-loop
 loop-holds c = (search needs, search needs, search needs, search needs, search needs, search needs, search needs, search needs, search needs, walking-start _ _ _ _ _ _ _ _ _ _ _ _ (c .before .before .before .two .ensures .0) (c .before .before .before .before .before .before .before .zero .ensures) (c .before .before .put-frame .ensures))
 
--- src/lib.rt:279:9
 sub-k : tie.Need-sub-k Inv-loop μ-loop
 sub-k c = search needs
 
--- src/lib.rt:280:24
 mul-two : tie.Need-mul-two Inv-loop μ-loop
 mul-two c = search needs
 
--- src/lib.rt:280:51
 mul-two-2 : tie.Need-mul-two-2 Inv-loop μ-loop
 mul-two-2 c = search needs
 
--- src/lib.rt:280:24
 add-two : tie.Need-add-two Inv-loop μ-loop
 add-two c = search needs
 
--- src/lib.rt:280:13
 two-requires-2 : tie.Need-two-requires-2 Inv-loop μ-loop
 two-requires-2 c κs = search needs
 
--- src/lib.rt:282:13
 same-length : tie.Need-same-length Inv-loop μ-loop
 same-length c = search needs
 
--- src/lib.rt:282:13
 same-length-2 : tie.Need-same-length-2 Inv-loop μ-loop
 same-length-2 c = search needs
 
--- src/lib.rt:282:13
 returns : tie.Need-returns Inv-loop μ-loop
 returns c = wandered-zero _ _ _ _ _ _ _ (c .before .before .before .before .loop .inv .9) (search needs) _ (c .before .two2 .ensures .0) _ _ (search needs)
 
--- src/lib.rt:285:13
 same-length-3 : tie.Need-same-length-3 Inv-loop μ-loop
 same-length-3 c = search needs
 
--- src/lib.rt:285:13
 same-length-4 : tie.Need-same-length-4 Inv-loop μ-loop
 same-length-4 c = search needs
 
--- src/lib.rt:285:13
 returns-2 : tie.Need-returns-2 Inv-loop μ-loop
 returns-2 c = wandered-over _ _ _ _ _ _ _ (c .before .before .before .before .before .loop .inv .9) (search needs) _ (c .before .before .two2 .ensures .0) _ _ (search needs)
 
--- src/lib.rt:287:12
 slice-read-if3 : tie.Need-slice-read-if3 Inv-loop μ-loop
 slice-read-if3 c = search needs
 
--- src/lib.rt:288:13
 same-length-5 : tie.Need-same-length-5 Inv-loop μ-loop
 same-length-5 c = search needs
 
--- src/lib.rt:288:13
 same-length-6 : tie.Need-same-length-6 Inv-loop μ-loop
 same-length-6 c = search needs
 
--- src/lib.rt:288:13
 returns-3 : tie.Need-returns-3 Inv-loop μ-loop
 returns-3 c = wandered-marked _ _ _ _ _ _ _ (c .before .before .before .before .before .before .before .loop .inv .9) (search needs) _ (c .before .before .before .before .two2 .ensures .0) _ _ (search needs)
 
--- src/lib.rt:291:13
 same-length-7 : tie.Need-same-length-7 Inv-loop μ-loop
 same-length-7 c = search needs
 
--- src/lib.rt:291:13
 same-length-8 : tie.Need-same-length-8 Inv-loop μ-loop
 same-length-8 c = search needs
 
--- src/lib.rt:291:13
 returns-4 : tie.Need-returns-4 Inv-loop μ-loop
 returns-4 c = wandered-full _ _ _ _ _ _ _ (c .before .before .before .before .before .before .before .before .loop .inv .9) (search needs) _ (c .before .before .before .before .before .two2 .ensures .0) _ _ (search needs)
 
--- src/lib.rt:293:9
 slice-write-marks : tie.Need-slice-write-marks Inv-loop μ-loop
 slice-write-marks c = search needs
 
--- src/lib.rt:294:30
 turn-requires : tie.Need-turn-requires Inv-loop μ-loop
 turn-requires c κs = search needs
 
--- src/lib.rt:294:22
 enum-known-more : tie.Need-enum-known-more Inv-loop μ-loop
 enum-known-more c = search needs
 
--- src/lib.rt:295:13
 enum-told : tie.Need-enum-told Inv-loop μ-loop
 enum-told c = search needs
 
--- src/lib.rt:295:13
 same-length-9 : tie.Need-same-length-9 Inv-loop μ-loop
 same-length-9 c = search needs
 
--- src/lib.rt:295:13
 same-length-10 : tie.Need-same-length-10 Inv-loop μ-loop
 same-length-10 c = simp length-set (search needs)
 
--- src/lib.rt:295:13
 returns-5 : tie.Need-returns-5 Inv-loop μ-loop
 returns-5 c = wandered-stop _ _ _ _ _ _ _ (c .before .before .before .before .before .before .before .before .before .before .before .before .before .before .loop .inv .9) (search needs) _ _ (c .before .before .before .before .turn .ensures) (c .enum-told .given .1)
 
--- src/lib.rt:298:27
 production-of-requires : tie.Need-production-of-requires Inv-loop μ-loop
 production-of-requires c κs = search needs
 
--- src/lib.rt:298:19
 leaf-of-requires : tie.Need-leaf-of-requires Inv-loop μ-loop
 leaf-of-requires c κs = search needs
 
--- src/lib.rt:298:9
 add-leaves : tie.Need-add-leaves Inv-loop μ-loop
 add-leaves c = search needs
 
--- src/lib.rt:299:9
 add-i : tie.Need-add-i Inv-loop μ-loop
 add-i c = search needs
 
--- src/lib.rt:278:5
 loop-less : tie.Need-loop-less Inv-loop μ-loop
 loop-less c = search needs
 
--- src/lib.rt:278:5
 loop-again : tie.Need-loop-again Inv-loop μ-loop
 loop-again c = let h = turned-few _ _ _ _ _ _ _ (c .before .before .before .before .before .before .before .before .turn .ensures) (c .before .before .before .before .more .given .1) in (search needs, search needs, search needs, search needs, search needs, search needs, search needs, search needs, search needs, walking-turn _ _ _ _ _ _ _ (c .before .before .before .before .before .before .before .before .before .before .before .before .before .before .before .before .before .before .loop .inv .9) (search needs) _ _ _ (c .before .before .before .before .before .before .before .before .turn .ensures) (c .before .before .before .before .more .given .1) (c .before .before .before .before .before .before .before .before .before .before .before .before .before .before .before .two2 .ensures .0) (search needs) (search needs) (c .before .production-of .ensures .0) _ (c .leaf-of .ensures .0))
 
--- src/lib.rt:259:1
 same-length-11 : tie.Need-same-length-11 Inv-loop μ-loop
 same-length-11 c = search needs
 
--- src/lib.rt:259:1
 same-length-12 : tie.Need-same-length-12 Inv-loop μ-loop
 same-length-12 c = search needs
 
--- src/lib.rt:259:1
 returns-6 : tie.Need-returns-6 Inv-loop μ-loop
 returns-6 c = wandered-through _ _ _ _ _ _ _ _ _ _ _ _ (search needs) (search needs) (c .before .loop .inv .9)
 
