@@ -1,13 +1,13 @@
 -- The first trees of a forest become the children of a slot: their parent links are set, and the next link of the last one is cut.
-use Prim.Native.Nat.{ℕ, zero, suc, _+_, _-_, _*_, _<_}
+use Prim.Native.Nat.{ℕ, zero, suc, _+_, _-_, _*_, _≤_, _<_}
 use mathlib.Core.Path.{_≡_, refl, sym, ap, _∙_}
 use mathlib.Core.List.{List, [], _∷_, _++_, List·Memᴰ, List·Memᴰ·head, List·Memᴰ·tail, Memᴰ·append-left, Memᴰ·append-right, Memᴰ·cast}
 use lib.ListN.{length}
 use native.Mathlib.Omega.{arith}
-use Rattle.base.specs.Bytes.{get16, put16}
-use Rattle.grammar.specs.Each.{Each, each-parts}
+use Rattle.base.specs.Bytes.{get16, put16, length-put16, byte-put16}
+use Rattle.grammar.specs.Each.{Each, each-parts, each-map}
 use Rattle.grammar.specs.Forest.{Forest}
-use Rattle.trees.specs.Area.{slotSize, tagSpace, slotAt, slotBytes, top, slots, Distinct, Linked}
+use Rattle.trees.specs.Area.{slotSize, maxSlots, areaSize, tagSpace, slotAt, slotBytes, top, slots, Distinct, Linked}
 use Rattle.trees.specs.Nodes.{trees, front, back}
 use Rattle.trees.specs.Slots.{Slotted, parentPlace, nextPlace, parent-put, next-put, next-get}
 
@@ -40,6 +40,38 @@ adopted-end parent k s b w w' n x z e h i j =
     let q : adopted parent 0 b s ≡ x = rw z at e in
     (j ∙ rw h (ap (λ (a : Adopted). a .bytes) q), i ∙ rw h (ap (λ (a : Adopted). a .next) q))
 
+-- ---- as long as the links stay within the area
+
+-- the slot s and the k slots along its next links lie within
+unfoldable pub Reach : List ℕ → ℕ → ℕ → Type 0
+Reach b zero s = slotSize * s + slotSize ≤ length b
+Reach b (suc k) s = (slotSize * s + slotSize ≤ length b) × Reach b k (get16 b (slotSize * s + nextPlace))
+
+pub reach-room : (b : List ℕ) (k s : ℕ) → Reach b k s → slotSize * s + slotSize ≤ length b
+unfolding Reach
+reach-room b zero s h = h
+reach-room b (suc k) s h = h .0
+
+-- a parent that is set changes no next link
+next-kept : (b : List ℕ) (s v x : ℕ) → get16 (put16 b (slotSize * s + parentPlace) v) (slotSize * x + nextPlace) ≡ get16 b (slotSize * x + nextPlace)
+next-kept b s v x =
+    let p = byte-put16 b (slotSize * s + parentPlace) v (slotSize * x + nextPlace) (λ e. omega arith) (λ e. omega arith) in
+    let q = byte-put16 b (slotSize * s + parentPlace) v (slotSize * x + nextPlace + 1) (λ e. omega arith) (λ e. omega arith) in
+    omega arith
+
+reach-kept : (b : List ℕ) (s v k x : ℕ) → Reach b k x → Reach (put16 b (slotSize * s + parentPlace) v) k x
+unfolding Reach
+reach-kept b s v zero x h = rw (length-put16 b (slotSize * s + parentPlace) v) h
+reach-kept b s v (suc k) x h =
+    (rw (length-put16 b (slotSize * s + parentPlace) v) (h .0), rw (next-kept b s v x) (reach-kept b s v k (get16 b (slotSize * x + nextPlace)) (h .1)))
+
+pub reach-turn : (parent k s : ℕ) (b w : List ℕ) (n : ℕ) → 0 < k → w ≡ put16 b (slotSize * s + parentPlace) parent → n ≡ get16 w (slotSize * s + nextPlace) → Reach b k s → Reach w (k - 1) n
+unfolding Reach
+reach-turn parent zero s b w n l e h i = absurd (omega arith)
+reach-turn parent (suc k) s b w n l e h i =
+    let q : suc k - 1 ≡ k = omega arith in
+    rw (q, h, e, next-kept b s parent s) (reach-kept b s parent k (get16 b (slotSize * s + nextPlace)) (i .1))
+
 -- ---- what stays linked where slots are left as they were
 
 pub linked-kept : {b b' : List ℕ} {o : ℕ} {f : Forest} → ((x : ℕ) → List·Memᴰ x (slots f) → slotAt b' x ≡ slotAt b x) → Linked b o f → Linked b' o f
@@ -50,10 +82,6 @@ linked-kept h (Linked.node {s = s} {k = k} {r = r} e c l) =
     (linked-kept (λ x m. h x (List·Memᴰ·tail (Memᴰ·append-right (slots k) m))) l)
 
 -- ---- numbers that stand once
-
-pub distinct-left : (xs ys : List ℕ) → Distinct (xs ++ ys) → Distinct xs
-distinct-left [] ys d = Distinct.nil
-distinct-left (x ∷ xs) ys (Distinct.cons n d) = Distinct.cons (λ m. n (Memᴰ·append-left ys m)) (distinct-left xs ys d)
 
 pub distinct-right : (xs ys : List ℕ) → Distinct (xs ++ ys) → Distinct ys
 distinct-right [] ys d = d
@@ -69,6 +97,9 @@ distinct-apart (y ∷ xs) ys x (Distinct.cons n d) (List·Memᴰ·tail k) m = di
 abbrev pub Small : ℕ → Type 0
 Small s = s < 65536
 
+pub small-within : {S : ℕ} {xs : List ℕ} → S ≤ maxSlots → Each (λ s. (1 ≤ s) × (s ≤ S)) xs → Each Small xs
+small-within {S} m = each-map (λ s (j : (1 ≤ s) × (s ≤ S)). omega arith)
+
 pub top-small : (f : Forest) → Each Small (slots f) → top f < 65536
 top-small Forest.nil e = omega arith
 top-small (Forest.leaf s a g r) (Each.cons l e) = l
@@ -82,7 +113,7 @@ pub record Takes (parent k : ℕ) (f : Forest) (b b' : List ℕ) (n : ℕ) : Typ
   pub next : n ≡ top (back k f)
   pub others : (x : ℕ) → (List·Memᴰ x (slots f) → ⊥) → slotAt b' x ≡ slotAt b x
 
-top-front : (k : ℕ) (f : Forest) → top f ≡ top (front (suc k) f)
+pub top-front : (k : ℕ) (f : Forest) → top f ≡ top (front (suc k) f)
 top-front k Forest.nil = refl
 top-front k (Forest.leaf s a g r) = refl
 top-front k (Forest.node s M p c r) = refl
@@ -150,6 +181,20 @@ step b s a q c n g parent e l m =
       next = next-get w s a q parent c n g (u .here) l;
       cut = record { long = v .long ∙ u .long; here = v .here; others = λ x d. v .others x d ∙ u .others x d };
     }
+
+-- the first trees of a linked forest lie within
+pub linked-reach : (k S : ℕ) (b : List ℕ) (f : Forest) → S ≤ maxSlots → length b ≡ areaSize S → k < trees f → Linked b 0 f → Each (λ s. (1 ≤ s) × (s ≤ S)) (slots f) → Reach b k (top f)
+unfolding Reach
+linked-reach k S b Forest.nil m n t l e = absurd (omega arith)
+linked-reach zero S b (Forest.leaf s a g r) m n t l (Each.cons i e) = omega arith
+linked-reach zero S b (Forest.node s M p c r) m n t l (Each.cons i e) = omega arith
+linked-reach (suc k) S b (Forest.leaf s a g r) m n t (Linked.leaf h _ l) (Each.cons i e) =
+    let q = next-get b s a 0 0 0 (top r) g h (top-small r (small-within m e)) in
+    (omega arith, rw q (linked-reach k S b r m n (omega arith) l e))
+linked-reach (suc k) S b (Forest.node s M p c r) m n t (Linked.node h _ l) (Each.cons i e) =
+    let o = each-parts (slots c) e .1 in
+    let q = next-get b s M p 0 (top c) (top r) 0 h (top-small r (small-within m o)) in
+    (omega arith, rw q (linked-reach k S b r m n (omega arith) l o))
 
 adopted-more : (parent k s : ℕ) (b : List ℕ) (n : ℕ) → get16 (put16 b (slotSize * s + parentPlace) parent) (slotSize * s + nextPlace) ≡ n
     → adopted parent (suc k) b s ≡ adopted parent k (put16 b (slotSize * s + parentPlace) parent) n

@@ -92,3 +92,22 @@ node-out w i l =
     let a7 = byte-out w (nodeSize * i + 4 + 3) (omega arith) in
     let g : 0 ≡ get32 w (nodeSize * i + 4) = omega arith in
     cc
+
+-- of node i, as its bytes are read
+
+module _ (w : List ℕ) (i : ℕ) where
+  pub node-symbol : byteAt w (nodeSize * i) ≡ nodeAt w i .symbol
+  unfolding nodeAt
+  node-symbol = refl
+
+  pub node-production : byteAt w (nodeSize * i + 1) ≡ nodeAt w i .production
+  unfolding nodeAt
+  node-production = refl
+
+  pub node-slot : get16 w (nodeSize * i + 2) ≡ nodeAt w i .slot
+  unfolding nodeAt
+  node-slot = refl
+
+  pub node-tag : get32 w (nodeSize * i + 4) ≡ nodeAt w i .tag
+  unfolding nodeAt
+  node-tag = refl

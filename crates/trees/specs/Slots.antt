@@ -42,8 +42,9 @@ apart x s n = by-cases (decLt x s) (λ l. inl l) (λ l. inr (more l))
     more : (x < s → ⊥) → s < x
     more l = by-cases (decLt s x) (λ m. m) (λ m. absurd (n (omega arith)))
 
-pub slotted-filled : (b b' c : List ℕ) (s : ℕ) → slotSize * s + slotSize ≤ length b → length c ≡ slotSize → Filled (byteAt c) (slotSize * s) slotSize b b' → Slotted b s c b'
-slotted-filled b b' c s f n h =
+pub slotted-filled : (b b' src c : List ℕ) (s : ℕ) → slotSize * s + slotSize ≤ length b → src ≡ c → length c ≡ slotSize → Filled (byteAt src) (slotSize * s) slotSize b b' → Slotted b s c b'
+slotted-filled b b' src c s f e n u =
+    let h : Filled (byteAt c) (slotSize * s) slotSize b b' = rw e at u in
     record {
       long = h .long;
       here = slot-is b' c s (omega (arith, h .long)) n (h .inside);
@@ -51,8 +52,8 @@ slotted-filled b b' c s f n h =
     }
   where
     go : (x : ℕ) → (x < s) ⊎ (s < x) → (j : ℕ) → slotSize * x ≤ j → j < slotSize * x + slotSize → byteAt b' j ≡ byteAt b j
-    go x (inl l) j u v = h .before j (omega arith)
-    go x (inr l) j u v = h .behind j (omega arith)
+    go x (inl l) j y z = u .before j (omega arith)
+    go x (inr l) j y z = u .behind j (omega arith)
 
 -- ---- one link written
 

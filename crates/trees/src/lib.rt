@@ -1,14 +1,26 @@
-// The list of a tree's nodes, eight bytes each.
+// The list of a tree's nodes, eight bytes each, and the tree area that is laid out from it.
 ghost use mathlib.Core.Path.{_≡_};
-ghost use Prim.Native.Nat.{_+_, _*_, _<_, _≤_};
+ghost use Prim.Native.Nat.{_+_, _-_, _*_, _<_, _≤_};
 ghost use lib.ListN.{length};
-ghost use Rattle.trees.specs.Area.{tagSpace};
-ghost use Rattle.base.specs.Bytes.{byteAt};
+ghost use Rattle.trees.specs.Area.{slotSize, maxSlots, areaSize, tagSpace, slotBytes, headerBytes, Area};
+ghost use Rattle.base.specs.Bytes.{byteAt, get16, put16};
 ghost use Rattle.base.specs.Filled.{Filled};
-ghost use Rattle.trees.specs.Coded.{nodeSize, nodeBytes, nodeAt};
+ghost use Rattle.trees.specs.Coded.{nodeSize, get32, nodeBytes, nodeAt, nodesFrom, arityIn};
+ghost use Rattle.trees.specs.Nodes.{build, Fed};
 ghost use Rattle.trees.specs.Listing.{nodeOf, Fits, Put};
+ghost use Rattle.trees.specs.Slots.{Slotted, parentPlace, nextPlace};
+ghost use Rattle.trees.specs.Adopting.{adopted, Reach};
+ghost use Rattle.trees.specs.Laying.{Ready, Lays, tokenOf};
+ghost use Rattle.trees.specs.Spread.{Spread};
 
 pub const NODE_SIZE: usize = 8;
+
+pub const SLOT_SIZE: usize = 16;
+
+// The places of a slot's parent and next sibling.
+const PARENT: usize = 4;
+
+const NEXT: usize = 8;
 
 // Of node i, counted from 0: its symbol, production, slot and tag. A read beyond the end gives 0.
 pub fn symbol_of(nodes: &[u8], i: usize) -> usize
@@ -95,4 +107,177 @@ pub fn put_node(
 {
     let bytes = node_bytes(slot, symbol, production, tag);
     put_bytes(nodes, NODE_SIZE * i, &bytes, NODE_SIZE);
+}
+
+// The two-byte and the four-byte number at `at`.
+fn pair(b: &[u8], at: usize) -> usize
+    requires { ⌜ at + 1 < length (now b) ⌝ }
+    ensures { λ r. ⌜ (r ≡ get16 (now (b .entry)) at) × (r < 65536) ⌝ }
+{
+    base::wide(b[at]) + 256 * base::wide(b[at + 1])
+}
+
+fn quad(b: &[u8], at: usize) -> usize
+    requires { ⌜ at + 3 < length (now b) ⌝ }
+    ensures { λ r. ⌜ (r ≡ get32 (now (b .entry)) at) × (r < tagSpace) ⌝ }
+{
+    let c = base::wide(b[at + 2]) + 256 * base::wide(b[at + 3]);
+    base::wide(b[at]) + 256 * (base::wide(b[at + 1]) + 256 * c)
+}
+
+fn put_pair(b: &mut [u8], at: usize, v: usize)
+    requires { ⌜ (at + 1 < length (now b)) × (v < 65536) ⌝ }
+    ensures { λ _. ⌜ now (b .exit) ≡ put16 (now (b .entry)) at v ⌝ }
+{
+    b[at] = (v % 256) as u8;
+    b[at + 1] = (v / 256) as u8;
+}
+
+// The bytes of a slot with no parent.
+fn slot_bytes(symbol: usize, production: usize, first: usize, next: usize, tag: usize) -> [u8; 16]
+    requires { ⌜ (symbol < 256) × (production < 256) ⌝ }
+    ensures { λ r. ⌜ r ≡ slotBytes symbol production 0 first next tag ⌝ }
+{
+    [
+        0x4E,
+        0x44,
+        symbol as u8,
+        production as u8,
+        0,
+        0,
+        (first % 256) as u8,
+        (first / 256 % 256) as u8,
+        (next % 256) as u8,
+        (next / 256 % 256) as u8,
+        (tag % 256) as u8,
+        (tag / 256 % 256) as u8,
+        (tag / 256 / 256 % 256) as u8,
+        (tag / 256 / 256 / 256 % 256) as u8,
+        0,
+        0,
+    ]
+}
+
+// Writes slot s, with no parent.
+fn put_slot(
+    area: &mut [u8],
+    s: usize,
+    symbol: usize,
+    production: usize,
+    first: usize,
+    next: usize,
+    tag: usize,
+)
+    requires { ⌜ (slotSize * s + slotSize ≤ length (now area)) × (symbol < 256) × (production < 256) ⌝ }
+    ensures { λ _. ⌜ Slotted (now (area .entry)) s (slotBytes symbol production 0 first next tag) (now (area .exit)) ⌝ }
+{
+    let bytes = slot_bytes(symbol, production, first, next, tag);
+    put_bytes(area, SLOT_SIZE * s, &bytes, SLOT_SIZE);
+}
+
+// Sets the parent of slot s, and answers its next sibling.
+fn hang(area: &mut [u8], s: usize, parent: usize) -> usize
+    requires { ⌜ (slotSize * s + slotSize ≤ length (now area)) × (parent < 65536) ⌝ }
+    ensures { λ r. ⌜ (now (area .exit) ≡ put16 (now (area .entry)) (slotSize * s + parentPlace) parent) × (r ≡ get16 (now (area .exit)) (slotSize * s + nextPlace)) × (r < 65536) ⌝ }
+{
+    put_pair(area, SLOT_SIZE * s + PARENT, parent);
+    pair(area, SLOT_SIZE * s + NEXT)
+}
+
+// Sets the parent of k trees, the first one at `head`, cuts the last one from the tree behind it, and answers that tree's slot.
+fn adopt(area: &mut [u8], parent: usize, head: usize, k: usize) -> usize
+    requires { ⌜ (parent < 65536) × (0 < k) × Reach (now area) (k - 1) head ⌝ }
+    ensures { λ r. ⌜ ((now (area .exit) ≡ adopted parent (k - 1) (now (area .entry)) head .bytes) × (r ≡ adopted parent (k - 1) (now (area .entry)) head .next)) × (r < 65536) ⌝ }
+{
+    let mut s = head;
+    let mut more = k - 1;
+    while 0 < more {
+        s = hang(area, s, parent);
+        more -= 1;
+    }
+    let next = hang(area, s, parent);
+    put_pair(area, SLOT_SIZE * s + NEXT, 0);
+    next
+}
+
+// Lays out node i before the trees that stand in the area, the first one at `head`, and answers its slot.
+fn lay_node(nodes: &[u8], i: usize, rows: &[u8], head: usize, area: &mut [u8]) -> usize
+    requires { ⌜ (nodeSize * i + nodeSize ≤ length (now nodes)) × (slotSize * nodeAt (now nodes) i .slot + slotSize ≤ length (now area)) × Ready (arityIn (now rows)) (nodeAt (now nodes) i) head (now area) ⌝ }
+    ensures { λ r. ⌜ Lays (arityIn (now (rows .entry))) (nodeAt (now (nodes .entry)) i) head (now (area .entry)) r (now (area .exit)) ⌝ }
+{
+    let at = NODE_SIZE * i;
+    let symbol = base::wide(nodes[at]);
+    let production = base::wide(nodes[at + 1]);
+    let s = pair(nodes, at + 2);
+    if production == 0 {
+        put_slot(area, s, symbol, 0, 0, head, quad(nodes, at + 4));
+        return s;
+    }
+    let k = grammar::length_at(rows, production - 1);
+    if k == 0 {
+        put_slot(area, s, symbol, production, 0, head, 0);
+        return s;
+    }
+    let next = adopt(area, s, head, k);
+    put_slot(area, s, symbol, production, head, next, 0);
+    s
+}
+
+// 1 for a leaf, else 0.
+fn token(nodes: &[u8], i: usize) -> usize
+    requires { ⌜ nodeSize * i + nodeSize ≤ length (now nodes) ⌝ }
+    ensures { λ r. ⌜ (r ≡ tokenOf (nodeAt (now (nodes .entry)) i .production)) × (r ≤ 1) ⌝ }
+{
+    if nodes[NODE_SIZE * i + 1] == 0 {
+        return 1;
+    }
+    0
+}
+
+fn header_bytes(root: usize, used: usize, tokens: usize) -> [u8; 16]
+    ensures { λ r. ⌜ r ≡ headerBytes root used tokens ⌝ }
+{
+    [
+        0x54,
+        0x52,
+        (root % 256) as u8,
+        (root / 256 % 256) as u8,
+        (used % 256) as u8,
+        (used / 256 % 256) as u8,
+        (tokens % 256) as u8,
+        (tokens / 256 % 256) as u8,
+        0,
+        0,
+        0,
+        0,
+        0,
+        0,
+        0,
+        0,
+    ]
+}
+
+fn put_header(area: &mut [u8], root: usize, used: usize, tokens: usize)
+    requires { ⌜ slotSize ≤ length (now area) ⌝ }
+    ensures { λ _. ⌜ Slotted (now (area .entry)) 0 (headerBytes root used tokens) (now (area .exit)) ⌝ }
+{
+    let bytes = header_bytes(root, used, tokens);
+    put_bytes(area, 0, &bytes, SLOT_SIZE);
+}
+
+// Writes the whole area of the tree whose n nodes are listed: the last node first, so that a node's children stand before it.
+pub fn lay_out(nodes: &[u8], n: usize, rows: &[u8], slots: usize, area: &mut [u8])
+    requires { ⌜ (slots ≤ maxSlots) × (n ≤ slots) × (nodeSize * n ≤ length (now nodes)) × (length (now area) ≡ areaSize slots) × Spread slots (nodesFrom (now nodes) n 0) × Fed (arityIn (now rows)) (nodesFrom (now nodes) n 0) ⌝ }
+    ensures { λ _. ⌜ Area slots (build (arityIn (now (rows .entry))) (nodesFrom (now (nodes .entry)) n 0)) (now (area .exit)) ⌝ }
+{
+    base::zero(area);
+    let mut i = n;
+    let mut head = 0;
+    let mut tokens = 0;
+    while 0 < i {
+        i -= 1;
+        tokens += token(nodes, i);
+        head = lay_node(nodes, i, rows, head, area);
+    }
+    put_header(area, head, n, tokens);
 }
