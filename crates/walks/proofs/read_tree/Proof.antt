@@ -1,0 +1,77 @@
+use Rattle.walks.specs.Closing.{reads-astray, reads-header, reads-spoilt, reads-tree, wandered-few}
+use borrow.Author.Needs.{needs}
+use Rattle.walks.proofs.read_tree.Statement.{statement}
+use Rattle.walks.proofs.read_tree.Tie as tie
+
+walk-requires : tie.Need-walk-requires
+walk-requires c κs = search needs
+
+enum-known-nodes : tie.Need-enum-known-nodes
+enum-known-nodes c = search needs
+
+enum-told : tie.Need-enum-told
+enum-told c = search needs
+
+same-length : tie.Need-same-length
+same-length c = search needs
+
+same-length-2 : tie.Need-same-length-2
+same-length-2 c = search needs
+
+returns : tie.Need-returns
+returns c = reads-astray _ _ _ _ _ _ _ _ _ _ (c .before .before .before .before .before .before .walk .ensures) (c .enum-told .given .1)
+
+heads-requires : tie.Need-heads-requires
+heads-requires c κs = let h = wandered-few _ _ _ _ _ _ _ _ _ _ _ _ (c .before .before .before .before .before .before .before .walk .ensures) (c .before .nodes .given .1) in search needs
+
+all-clear-requires : tie.Need-all-clear-requires
+all-clear-requires c κs = search needs
+
+same-length-3 : tie.Need-same-length-3
+same-length-3 c = search needs
+
+same-length-4 : tie.Need-same-length-4
+same-length-4 c = search needs
+
+returns-2 : tie.Need-returns-2
+returns-2 c = reads-tree _ _ _ _ _ _ _ _ _ _ _ _ (c .before .before .before .before .before .before .before .before .before .before .before .before .walk .ensures) (c .before .before .before .before .before .before .nodes .given .1) (search needs) (search needs) (search needs) (c .before .before .before .before .heads .ensures .yes (search needs)) (c .before .all-clear .ensures .yes (search needs))
+
+same-length-5 : tie.Need-same-length-5
+same-length-5 c = search needs
+
+same-length-6 : tie.Need-same-length-6
+same-length-6 c = search needs
+
+returns-3 : tie.Need-returns-3
+returns-3 c = reads-spoilt _ _ _ _ _ _ _ _ _ _ _ _ (c .before .before .before .before .before .before .before .before .before .before .before .before .walk .ensures) (c .before .before .before .before .before .before .nodes .given .1) (c .before .all-clear .ensures .no (search needs))
+
+same-length-7 : tie.Need-same-length-7
+same-length-7 c = search needs
+
+same-length-8 : tie.Need-same-length-8
+same-length-8 c = search needs
+
+returns-4 : tie.Need-returns-4
+returns-4 c = reads-header _ _ _ _ _ _ _ _ _ _ _ _ (c .before .before .before .before .before .before .before .before .before .walk .ensures) (c .before .before .before .nodes .given .1) (c .before .heads .ensures .no (search needs))
+
+pub read-tree-spec : {M : Type 1} → statement M
+read-tree-spec =
+    tie.close
+    (tie.spec
+    walk-requires
+    enum-known-nodes
+    enum-told
+    same-length
+    same-length-2
+    returns
+    heads-requires
+    all-clear-requires
+    same-length-3
+    same-length-4
+    returns-2
+    same-length-5
+    same-length-6
+    returns-3
+    same-length-7
+    same-length-8
+    returns-4)
