@@ -2,6 +2,8 @@
 pub mod Judged
 pub mod Prepare
 pub mod Parse
+pub mod ReadBack
 -- The laws that the proofs of the calls cite.
 pub mod Judging
 pub mod Storing
+pub mod Returning

@@ -192,7 +192,7 @@ fed-before {ar} es (Formed.node {s = s} {M = M} {p = p} {k = k} {r = r} e h j) u
 pub fed-preorder : {ar : ℕ → ℕ} {f : Forest} → Formed ar f → Fed ar (preorder f)
 fed-preorder {ar} {f} h = rw (append-nil (preorder f)) at (fed-before [] h Fed.nil)
 
-leaves-append : (es ds : List Node) → leavesOf (es ++ ds) ≡ leavesOf es ++ leavesOf ds
+pub leaves-append : (es ds : List Node) → leavesOf (es ++ ds) ≡ leavesOf es ++ leavesOf ds
 leaves-append [] ds = refl
 leaves-append (e ∷ es) ds = go (e .production) refl (leaves-append es ds)
   where

@@ -129,7 +129,7 @@ module _ {G : Grammar} {S : ℕ} {b : List ℕ} where
       length-slots (Forest.leaf s a g r) = ap suc (length-slots r)
       length-slots (Forest.node s M p k r) = omega (arith, length-append (slots k) (slots r), length-slots k, length-slots r)
 
-  valid-header : (v : Valid G S b) → Header b (top (v .tree)) (size (v .tree)) (length (yield (v .tree)))
+  pub valid-header : (v : Valid G S b) → Header b (top (v .tree)) (size (v .tree)) (length (yield (v .tree)))
   valid-header v =
       header-says b (top-small (v .tree) (v .few) (v .area .within))
       (omega (arith, v .few, valid-few v, size-preorder (v .tree)))
