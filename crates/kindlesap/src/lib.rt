@@ -6,10 +6,13 @@ use plain::Tokens;
 use replies::Counts;
 use replies::Reason;
 use replies::Reply;
+use walks::Walked;
 ghost use mathlib.Core.Path.{_≡_};
 ghost use Prim.Native.Nat.{_+_, _*_, _<_, _≤_};
 ghost use lib.ListN.{length};
-ghost use Rattle.base.specs.Blocks.{zeros};
+ghost use mathlib.Core.List.{_∷_};
+ghost use Rattle.base.specs.Bytes.{leBytes};
+ghost use Rattle.base.specs.Blocks.{zeros, copied};
 ghost use Rattle.grammar.specs.Limits.{maxProductions};
 ghost use Rattle.grammar.specs.Rows.{grammarIn};
 ghost use Rattle.grammar.specs.Grammar.{WellFormed};
@@ -17,19 +20,32 @@ ghost use Rattle.sets.specs.Words.{setsSize};
 ghost use Rattle.grammar.specs.Prediction.{Prepared};
 ghost use Rattle.tables.specs.Tables.{predictionsSize, Tables};
 ghost use Rattle.tables.specs.Outcome.{Ready};
-ghost use Rattle.plain.specs.Tokens.{Sentence, tokensFrom};
+ghost use Rattle.trees.specs.Area.{tagSpace, maxSlots};
+ghost use Rattle.trees.specs.Nodes.{leavesOf};
+ghost use Rattle.trees.specs.Coded.{nodesFrom};
+ghost use Rattle.plain.specs.Tokens.{tokenSize, Sentence, tokensFrom};
 ghost use Rattle.plain.specs.Machine.{Ground, Done};
 ghost use Rattle.kindlesap.specs.Judged.{Judged, Opened};
 ghost use Rattle.kindlesap.specs.Judging.{Found};
 ghost use Rattle.kindlesap.specs.Prepare.{Writes, Prepares, Called};
 ghost use Rattle.kindlesap.specs.Parse.{workAreas, Sized, Fits, ParseOutcome, ParseCalled};
+ghost use Rattle.kindlesap.specs.ReadBack.{Returns, ReadOutcome, ReadCalled};
 ghost use Rattle.kindlesap.specs.Storing.{Slotted};
+ghost use Rattle.kindlesap.specs.Returning.{Giving, Treed};
 
 const HEADER_SIZE: usize = 16;
 
 const MAX_SLOTS: usize = 1000;
 
 const WORK_AREAS: usize = 3;
+
+// Where an area's header has the number of tokens.
+const TOKENS_PLACE: usize = 6;
+
+// What the walk of an area needs: a list of nodes, frames, and a mark for each slot.
+const WALK_SIZE: usize = trees::NODE_SIZE * MAX_SLOTS + walks::FRAME_SIZE * (MAX_SLOTS + 1);
+
+const MARKS_SIZE: usize = MAX_SLOTS + 1;
 
 // What replies 2 and 3 say of a grammar.
 pub enum Judgement {
@@ -326,6 +342,125 @@ pub fn parse(image: &[u8], tables: &[u8], tokens: &[u8], tree: &mut [u8], work: 
     r
 }
 
+// Writes a token at `at`.
+fn put_token(out: &mut [u8], at: usize, kind: usize, tag: usize)
+    requires { ⌜ (kind < 256) × (tag < tagSpace) ⌝ }
+    ensures { λ _. ⌜ now (out .exit) ≡ copied (now (out .entry)) at (kind ∷ leBytes 4 tag) ⌝ }
+{
+    let bytes = [
+        kind as u8,
+        (tag % 256) as u8,
+        (tag / 256 % 256) as u8,
+        (tag / 256 / 256 % 256) as u8,
+        (tag / 256 / 256 / 256 % 256) as u8,
+    ];
+    base::copy(out, at, &bytes);
+}
+
+// Writes the tokens of the leaves among n nodes.
+fn give(nodes: &[u8], n: usize, out: &mut [u8])
+    requires { ⌜ (n ≤ maxSlots) × (tokenSize * length (leavesOf (nodesFrom (now nodes) n 0)) ≤ length (now out)) ⌝ }
+    ensures { λ _. ⌜ Giving (now (nodes .entry)) n (now (out .entry)) (now (out .exit)) (length (leavesOf (nodesFrom (now (nodes .entry)) n 0))) ⌝ }
+{
+    let mut j: usize = 0;
+    let mut i: usize = 0;
+    while i < n {
+        let p = trees::production_of(nodes, i);
+        let k = i;
+        i += 1;
+        if p != 0 {
+            continue;
+        }
+        let symbol = trees::symbol_of(nodes, k);
+        let tag = trees::tag_of(nodes, k);
+        put_token(out, plain::TOKEN_SIZE * j, symbol, tag);
+        j += 1;
+    }
+}
+
+// Reply 11, or the tokens of the tree whose o nodes are listed.
+fn give_back(
+    rows: &[u8],
+    t: usize,
+    n: usize,
+    start: usize,
+    count: usize,
+    slots: usize,
+    tree: &[u8],
+    nodes: &[u8],
+    o: usize,
+    output: &mut [u8],
+) -> Reply
+    requires { ⌜ Treed (grammarIn (now rows) t n start count) slots (now tree) (now nodes) o ⌝ }
+    ensures { λ r. ⌜ Returns (now (tree .entry)) (now (output .entry)) (grammarIn (now (rows .entry)) t n start count) r (now (output .exit)) ⌝ }
+{
+    let tokens = base::get16(tree, TOKENS_PLACE);
+    let need = plain::TOKEN_SIZE * tokens;
+    if output.len() < need {
+        return Reply::Refused(Reason::ShortOutput(need as u64));
+    }
+    give(nodes, o, output);
+    Reply::Accepted(Counts {
+        total: o as u32,
+        kept: 0,
+        made: 0,
+        given_up: 0,
+    })
+}
+
+// Replies 5 and 11, or the tokens of the tree.
+fn read_fit(
+    rows: &[u8],
+    t: usize,
+    n: usize,
+    start: usize,
+    count: usize,
+    tree: &[u8],
+    output: &mut [u8],
+) -> Reply
+    ensures { λ r. ⌜ Returns (now (tree .entry)) (now (output .entry)) (grammarIn (now (rows .entry)) t n start count) r (now (output .exit)) ⌝ }
+{
+    let slots = slots_of(tree.len());
+    if slots == 0 {
+        return Reply::Refused(Reason::WrongTree);
+    }
+    let mut work = [0u8; WALK_SIZE];
+    let mut marks = [0u8; MARKS_SIZE];
+    match walks::read_tree(tree, slots, rows, t, n, start, count, &mut work, &mut marks) {
+        Walked::Tree(o) => give_back(rows, t, n, start, count, slots, tree, &work, o, output),
+        Walked::NoTree => Reply::Refused(Reason::WrongTree),
+    }
+}
+
+// A grammar that was read: replies 2 and 3, and what comes behind them.
+fn read_read(head: Head, rows: &[u8; grammar::ROWS_SIZE], tree: &[u8], output: &mut [u8]) -> Reply
+    requires { ⌜ WellFormed (grammarIn (now rows) (head .t) (head .n) (head .start) (head .count)) × (head .count ≤ maxProductions) ⌝ }
+    ensures { λ r. ⌜ Judged (grammarIn (now (rows .entry)) (head .t) (head .n) (head .start) (head .count)) (Returns (now (tree .entry)) (now (output .entry)) (grammarIn (now (rows .entry)) (head .t) (head .n) (head .start) (head .count))) (now (output .entry)) r (now (output .exit)) ⌝ }
+{
+    let t = head.t;
+    let n = head.n;
+    let start = head.start;
+    let count = head.count;
+    let mut sets = [0u32; sets::SETS_SIZE];
+    let mut cells = [0u8; tables::PREDICTIONS_SIZE];
+    match judge(rows, t, n, start, count, &mut sets, &mut cells) {
+        Judgement::Useless(symbol) => Reply::Refused(Reason::UselessSymbol(symbol as u64)),
+        Judgement::Conflict(symbol) => Reply::Refused(Reason::NotLl1(symbol as u64)),
+        Judgement::Fit => read_fit(rows, t, n, start, count, tree, output),
+    }
+}
+
+// Reads a tree's tokens back.
+pub fn read_back(image: &[u8], tree: &[u8], output: &mut [u8]) -> Reply
+    ensures { λ r. ⌜ ReadOutcome (now (image .entry)) (now (tree .entry)) (now (output .entry)) r (now (output .exit)) ⌝ }
+{
+    let mut rows = [0u8; grammar::ROWS_SIZE];
+    match grammar::read_grammar(image, &mut rows) {
+        GrammarRead::Good(head) => read_read(head, &rows, tree, output),
+        GrammarRead::Bad(offset) => Reply::Refused(Reason::BadGrammar(offset as u64)),
+    }
+}
+
 #[no_mangle]
 pub extern "C" fn kindlesap_prepare(grammar: &[u8], tables: &mut [u8], reply: &mut [u8])
     ensures { λ _. ⌜ Called (now (grammar .entry)) (now (tables .entry)) (now (reply .entry)) (now (tables .exit)) (now (reply .exit)) ⌝ }
@@ -346,5 +481,18 @@ pub extern "C" fn kindlesap_parse(
     ensures { λ _. ⌜ ParseCalled (now (grammar .entry)) (now (tables .entry)) (now (tokens .entry)) (now (tree .entry)) (now (work .entry)) (now (reply .entry)) (now (tree .exit)) (now (work .exit)) (now (reply .exit)) ⌝ }
 {
     let r = parse(grammar, tables, tokens, tree, work);
+    replies::write_reply(r, reply);
+}
+
+#[no_mangle]
+pub extern "C" fn kindlesap_read_back(
+    grammar: &[u8],
+    tree: &[u8],
+    output: &mut [u8],
+    reply: &mut [u8],
+)
+    ensures { λ _. ⌜ ReadCalled (now (grammar .entry)) (now (tree .entry)) (now (output .entry)) (now (reply .entry)) (now (output .exit)) (now (reply .exit)) ⌝ }
+{
+    let r = read_back(grammar, tree, output);
     replies::write_reply(r, reply);
 }

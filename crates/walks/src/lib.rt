@@ -19,7 +19,7 @@ ghost use Rattle.walks.specs.Pushing.{Pushed, Settled};
 
 const SLOT_SIZE: usize = 16;
 
-const FRAME_SIZE: usize = 6;
+pub const FRAME_SIZE: usize = 6;
 
 // The area is the tree of so many nodes, or it is no valid tree.
 pub enum Walked {
