@@ -7,3 +7,5 @@ pub mod ReadBack
 pub mod Judging
 pub mod Storing
 pub mod Returning
+-- Across calls.
+pub mod Across

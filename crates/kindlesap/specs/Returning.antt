@@ -31,7 +31,7 @@ pub record Given (w : List Token) (out₀ out : List ℕ) (j : ℕ) : Type 0 whe
   pub is : out ≡ tokenBytes w ++ drop (tokenSize * j) out₀
   pub count : length w ≡ j
 
-length-token-bytes : (w : List Token) → length (tokenBytes w) ≡ tokenSize * length w
+pub length-token-bytes : (w : List Token) → length (tokenBytes w) ≡ tokenSize * length w
 unfolding leBytes
 length-token-bytes [] = refl
 length-token-bytes (k ∷ w) = omega (arith, length-token-bytes w)
