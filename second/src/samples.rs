@@ -3,6 +3,9 @@
 use crate::grammar::Grammar;
 use crate::image;
 use crate::reference::IMAGE;
+use crate::sets::Sets;
+use crate::tables::{self, TABLE_BYTES};
+use crate::tokens::{self, Token};
 
 /// A grammar from its parts.
 pub fn grammar(t: u8, n: u8, start: u8, productions: &[(u8, &[u8])]) -> Grammar {
@@ -26,6 +29,24 @@ pub fn image(t: u8, n: u8, start: u8, productions: &[(u8, &[u8])]) -> Vec<u8> {
 /// The reference grammar.
 pub fn reference() -> Grammar {
     image::read(&IMAGE).expect("the reference image is good")
+}
+
+/// The tables of an LL(1) grammar.
+pub fn tables(grammar: &Grammar) -> Vec<u8> {
+    let mut tables = [0; TABLE_BYTES];
+    tables::write(grammar, &Sets::of(grammar), &mut tables);
+    tables.to_vec()
+}
+
+/// Tokens of these kinds, no two with the same tag.
+pub fn tokens(kinds: &[u8]) -> Vec<Token> {
+    let tagged = kinds.iter().zip(0x0a00_0000..);
+    tagged.map(|(&kind, tag)| Token { kind, tag }).collect()
+}
+
+/// The bytes of such tokens.
+pub fn token_bytes(kinds: &[u8]) -> Vec<u8> {
+    tokens::bytes(&tokens(kinds))
 }
 
 /// Figure 4 of source document 000. Terminals: 1 plus, 2 times, 3 id;

@@ -63,6 +63,11 @@ fn write_break_points(grammar: &Grammar, sets: &Sets, tables: &mut [u8]) {
     }
 }
 
+/// The predictions of row M, one for each lookahead.
+pub fn predictions(tables: &[u8], m: usize) -> &[u8] {
+    &tables[m * COLUMNS..][..COLUMNS]
+}
+
 /// The byte of the prediction for row M and lookahead a.
 fn prediction_entry(m: usize, a: u8) -> usize {
     m * COLUMNS + usize::from(a)
