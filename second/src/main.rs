@@ -17,6 +17,7 @@ mod descent;
 mod grammar;
 mod image;
 mod listing;
+mod listing_input;
 mod parse;
 mod parse_case;
 mod per_symbol;
@@ -57,6 +58,8 @@ const USAGE: &str = "usage:
   second listing                     what `listing` prints for token bytes on standard input
   second images SEED COUNT PROGRAM [ARGUMENT ..]
                                      compare PROGRAM with `show -` on COUNT images
+  second listings SEED COUNT PROGRAM [ARGUMENT ..]
+                                     the same with `listing` on COUNT lists of token bytes
   second prepares SEED COUNT PROGRAM [ARGUMENT ..]
                                      compare PROGRAM with prepare on COUNT cases, which it
                                      takes on standard input and answers on standard output
@@ -96,6 +99,11 @@ fn run(words: &[&str]) -> Result<ExitCode, Box<dyn Error>> {
         ["images", seed, count, program, ref arguments @ ..] => {
             let ask = |image: &[u8]| compare::ask_program(program, arguments, image);
             let failed = compare::images(seed.parse()?, count.parse()?, ask, &mut io::stdout())?;
+            Ok(status(failed))
+        }
+        ["listings", seed, count, program, ref arguments @ ..] => {
+            let ask = |tokens: &[u8]| compare::ask_program(program, arguments, tokens);
+            let failed = compare::listings(seed.parse()?, count.parse()?, ask, &mut io::stdout())?;
             Ok(status(failed))
         }
         ["prepares", seed, count, ref command @ ..] => {
