@@ -7,6 +7,7 @@ use crate::grammar::{Grammar, END_MARK};
 use crate::reply::Reply;
 use crate::tables;
 use crate::tokens::Token;
+use std::ops::Range;
 
 /// The derivation tree of a sentence if it has at most as many nodes as there
 /// are slots, else reply 9 or 10. The tables must be those of the grammar.
@@ -16,22 +17,23 @@ pub fn parse(
     tokens: &[Token],
     slots: usize,
 ) -> Result<Derivation, Reply> {
-    let mut nodes = Vec::with_capacity(slots);
-    nodes.push(Node::of(grammar.start));
     let mut descent = Descent {
         grammar,
         tables,
         tokens,
         slots,
-        nodes,
+        nodes: Vec::with_capacity(slots),
+        preorder: Vec::with_capacity(slots),
         matched: 0,
     };
+    descent.nodes.push(Node::root(grammar.start));
     descent.read(0)?;
     if descent.matched < tokens.len() {
         return Err(descent.expected(1 << END_MARK));
     }
     Ok(Derivation {
         nodes: descent.nodes,
+        preorder: descent.preorder,
     })
 }
 
@@ -42,16 +44,19 @@ struct Descent<'a> {
     tokens: &'a [Token],
     slots: usize,
     nodes: Vec<Node>,
+    /// The numbers of the nodes read so far, or being read.
+    preorder: Vec<u16>,
     /// How many tokens are matched.
     matched: usize,
 }
 
 impl Descent<'_> {
     /// Reads the tokens below a node and makes the nodes below it.
-    fn read(&mut self, number: usize) -> Result<(), Reply> {
-        let symbol = self.nodes[number].symbol;
+    fn read(&mut self, number: u16) -> Result<(), Reply> {
+        self.preorder.push(number);
+        let symbol = self.nodes[usize::from(number)].symbol;
         if self.grammar.terminals().contains(&symbol) {
-            self.nodes[number].tag = self.matched_tag(symbol)?;
+            self.nodes[usize::from(number)].tag = self.matched_tag(symbol)?;
             return Ok(());
         }
         let row = tables::predictions(self.tables, self.grammar.row(symbol));
@@ -59,9 +64,8 @@ impl Descent<'_> {
         let Some(index) = usize::from(production).checked_sub(1) else {
             return Err(self.expected(predicted(row)));
         };
-        let children = self.add_nodes(&self.grammar.productions[index].1)?;
-        self.nodes[number].production = production;
-        self.nodes[number].children = children.clone();
+        self.nodes[usize::from(number)].production = production;
+        let children = self.add_nodes(number, &self.grammar.productions[index].1)?;
         children.into_iter().try_for_each(|child| self.read(child))
     }
 
@@ -76,14 +80,24 @@ impl Descent<'_> {
         }
     }
 
-    /// Adds a node for each symbol of a body, if there is room for all.
-    fn add_nodes(&mut self, body: &[u8]) -> Result<std::ops::Range<usize>, Reply> {
+    /// Adds a child for each symbol of a body, if there is room for all.
+    fn add_nodes(&mut self, parent: u16, body: &[u8]) -> Result<Range<u16>, Reply> {
         let first = self.nodes.len();
         if first + body.len() > self.slots {
             return Err(Reply::NO_ROOM);
         }
-        self.nodes.extend(body.iter().copied().map(Node::of));
-        Ok(first..self.nodes.len())
+        let Some((&last, others)) = body.split_last() else {
+            return Ok(0..0);
+        };
+        let others = others.iter().map(|&symbol| Node::of(symbol, parent));
+        self.nodes.extend(others);
+        self.nodes.push(Node {
+            is_last: true,
+            ..Node::of(last, parent)
+        });
+        let first = first as u16;
+        self.nodes[usize::from(parent)].first_child = first;
+        Ok(first..first + body.len() as u16)
     }
 
     /// The kind of the next token, or the end mark.

@@ -2,7 +2,6 @@
 //! that are no tokens, and inputs at and above the greatest length.
 
 use crate::compare::Input;
-use crate::grammar::Grammar;
 use crate::image;
 use crate::listing::MAX_INPUT;
 use crate::random::Random;
@@ -29,7 +28,8 @@ pub fn input(seed: u64, number: usize) -> Input {
 
 fn some_input(random: &mut Random, number: usize) -> (String, Vec<u8>) {
     let grammar = image::read(&IMAGE).expect("the reference image is good");
-    let mut tokens = some_book(random, &grammar);
+    let nodes = random.one_of(&[10, 50, 300, MAX_SLOTS, MAX_SLOTS + 300]);
+    let mut tokens = random_sentence::tokens(random, &grammar, nodes);
     match number % 5 {
         0 => ("book".to_string(), tokens::bytes(&tokens)),
         1 | 2 => {
@@ -49,17 +49,6 @@ fn some_input(random: &mut Random, number: usize) -> (String, Vec<u8>) {
             ("great length".to_string(), lengthened(tokens, length))
         }
     }
-}
-
-/// A book of any size, one that does not fit included.
-fn some_book(random: &mut Random, grammar: &Grammar) -> Vec<Token> {
-    let nodes = random.one_of(&[10, 50, 300, MAX_SLOTS, MAX_SLOTS + 300]);
-    let kinds = random_sentence::kinds(random, grammar, nodes);
-    let tokens = kinds.into_iter().map(|kind| Token {
-        kind,
-        tag: token_damage::tag(random),
-    });
-    tokens.collect()
 }
 
 /// The greatest length of an input, one next to it, or more.

@@ -8,6 +8,7 @@
 
 mod area_damage;
 mod bench;
+mod book;
 mod calls;
 mod choices;
 mod compare;
@@ -49,7 +50,7 @@ mod plain_parse;
 mod samples;
 
 use std::error::Error;
-use std::io::{self, Read};
+use std::io::{self, Read, Write};
 use std::process::{Command, ExitCode};
 
 const USAGE: &str = "usage:
@@ -66,8 +67,15 @@ const USAGE: &str = "usage:
   second parses SEED COUNT PROGRAM [ARGUMENT ..]
   second reads SEED COUNT PROGRAM [ARGUMENT ..]
                                      the same with parse and with read back
+  second book RULES                  the token bytes of a book with RULES rules
   second bench-prepare COUNT FILE|-  nanoseconds of prepare and of copying the tables, each
-                                     the mean of COUNT calls";
+                                     the mean of COUNT calls
+  second bench-parse COUNT GRAMMAR TOKENS
+                                     the same of parse into 1,000 slots, of the parse alone
+                                     when all is checked, and of copying tree, tables and work
+  second bench-read-back COUNT GRAMMAR TOKENS
+                                     the same of read back, of the walk that tells a valid
+                                     tree alone, and of copying tree and tokens";
 
 /// Exit status for a command that could not be carried out.
 const NOT_RUN: u8 = 2;
@@ -117,6 +125,21 @@ fn run(words: &[&str]) -> Result<ExitCode, Box<dyn Error>> {
         }
         ["bench-prepare", count, source] => {
             println!("{}", bench::prepare(count.parse()?, &read_source(source)?));
+            Ok(ExitCode::SUCCESS)
+        }
+        ["book", rules] => {
+            let book = book::tokens(rules.parse()?);
+            io::stdout().write_all(&tokens::bytes(&book))?;
+            Ok(ExitCode::SUCCESS)
+        }
+        ["bench-parse", count, image, tokens] => {
+            let (image, tokens) = (read_source(image)?, read_source(tokens)?);
+            println!("{}", bench::parse(count.parse()?, &image, &tokens)?);
+            Ok(ExitCode::SUCCESS)
+        }
+        ["bench-read-back", count, image, tokens] => {
+            let (image, tokens) = (read_source(image)?, read_source(tokens)?);
+            println!("{}", bench::read_back(count.parse()?, &image, &tokens)?);
             Ok(ExitCode::SUCCESS)
         }
         _ => Err(USAGE.into()),

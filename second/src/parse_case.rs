@@ -11,7 +11,6 @@ use crate::random::Random;
 use crate::random_sentence;
 use crate::reference::IMAGE;
 use crate::reply::{Reply, REPLY_BYTES};
-use crate::sets::Sets;
 use crate::show;
 use crate::tables::{self, TABLE_BYTES};
 use crate::token_damage;
@@ -117,8 +116,7 @@ fn example(number: usize) -> Option<Case> {
         ("example F", &[1, 2, 4, 2, 4], MAX_SLOTS),
     ];
     let (kind, kinds, slots) = *examples.get(number)?;
-    let tagged = kinds.iter().zip(1..);
-    let tokens: Vec<Token> = tagged.map(|(&kind, tag)| Token { kind, tag }).collect();
+    let tokens = tokens::numbered(kinds.iter().copied());
     Some(Case {
         kind: kind.to_string(),
         image: IMAGE.to_vec(),
@@ -138,12 +136,7 @@ fn some_sentence(
     kinds: &mut Vec<&'static str>,
 ) -> Vec<Token> {
     let nodes = random.one_of(&[10, 50, 300, MAX_SLOTS, MAX_SLOTS, MAX_SLOTS + 300]);
-    let sentence = random_sentence::kinds(random, grammar, nodes);
-    let with_tag = |kind| Token {
-        kind,
-        tag: token_damage::tag(random),
-    };
-    let mut tokens: Vec<Token> = sentence.into_iter().map(with_tag).collect();
+    let mut tokens = random_sentence::tokens(random, grammar, nodes);
     if random.once_in(2) {
         for _ in 0..=random.below(3) {
             kinds.push(token_damage::changed(random, grammar.t, &mut tokens));
@@ -175,8 +168,7 @@ fn some_slots(
 /// The least number of slots with which the reply is not 10, or one more than
 /// there can be.
 fn least_slots(grammar: &Grammar, tokens: &[Token]) -> usize {
-    let mut tables = [0; TABLE_BYTES];
-    tables::write(grammar, &Sets::of(grammar), &mut tables);
+    let tables = tables::of(grammar);
     let is_full = |slots| descent::parse(grammar, &tables, tokens, slots) == Err(Reply::NO_ROOM);
     let (mut too_few, mut enough) = (0, MAX_SLOTS + 1);
     while too_few + 1 < enough {
@@ -200,9 +192,7 @@ fn wrong_tables(random: &mut Random) -> Tables {
         },
         2 => {
             let (_, other) = choices::ll1_grammar(random);
-            let mut tables = [0; TABLE_BYTES];
-            tables::write(&other, &Sets::of(&other), &mut tables);
-            Tables::Sent(tables.to_vec())
+            Tables::Sent(tables::of(&other))
         }
         _ => Tables::Prepared {
             length: TABLE_BYTES,
@@ -257,13 +247,8 @@ fn earlier_contents(random: &mut Random, grammar: &Grammar, length: usize, fill:
 /// sentence fits.
 fn earlier_tree(random: &mut Random, grammar: &Grammar, length: usize) -> Option<Vec<u8>> {
     let slots = tree::slots(length)?;
-    let kinds = random_sentence::kinds(random, grammar, slots);
-    let tokens: Vec<Token> = kinds
-        .into_iter()
-        .map(|kind| Token { kind, tag: 7 })
-        .collect();
-    let mut tables = [0; TABLE_BYTES];
-    tables::write(grammar, &Sets::of(grammar), &mut tables);
+    let tokens = random_sentence::tokens(random, grammar, slots);
+    let tables = tables::of(grammar);
     let derivation = descent::parse(grammar, &tables, &tokens, slots).ok()?;
     let mut area = vec![0; length];
     tree::write(&derivation, &derivation.in_slots(1..), &mut area);

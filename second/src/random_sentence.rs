@@ -4,12 +4,24 @@
 use crate::grammar::Grammar;
 use crate::per_symbol::PerSymbol;
 use crate::random::Random;
+use crate::token_damage;
+use crate::tokens::Token;
 
 /// A sentence of a great tree is cut after this many tokens or steps.
 const MAX_TOKENS: usize = 1_200;
 const MAX_STEPS: usize = 5_000;
 /// Trees are not told apart above this size.
 const GREAT: usize = 1 << 20;
+
+/// A sentence of such kinds, with any tags.
+pub fn tokens(random: &mut Random, grammar: &Grammar, nodes: usize) -> Vec<Token> {
+    let kinds = kinds(random, grammar, nodes);
+    let with_tag = |kind| Token {
+        kind,
+        tag: token_damage::tag(random),
+    };
+    kinds.into_iter().map(with_tag).collect()
+}
 
 /// The kinds of a sentence whose tree has at most this many nodes, if there is
 /// one; else of a small sentence, which may be cut.
@@ -99,6 +111,7 @@ mod tests {
     use crate::descent;
     use crate::random_ll1;
     use crate::samples;
+    use crate::tables;
 
     #[test]
     fn the_least_trees_of_the_reference_grammar() {
@@ -119,7 +132,7 @@ mod tests {
                 continue;
             }
             let tokens = samples::tokens(&kinds(random, &grammar, nodes));
-            let tables = samples::tables(&grammar);
+            let tables = tables::of(&grammar);
             let tree = descent::parse(&grammar, &tables, &tokens, nodes);
             assert!(tree.is_ok(), "{grammar:?}: {tokens:?}");
             accepted += 1;

@@ -13,11 +13,9 @@ use crate::random_sentence;
 use crate::read_back::read_back;
 use crate::reference::IMAGE;
 use crate::reply::{Reply, REPLY_BYTES};
-use crate::sets::Sets;
 use crate::show;
-use crate::tables::{self, TABLE_BYTES};
-use crate::token_damage;
-use crate::tokens::{Token, TOKEN_BYTES};
+use crate::tables;
+use crate::tokens::{self, Token, TOKEN_BYTES};
 use crate::tree::{self, area_bytes, MAX_SLOTS};
 use std::io::{self, Read};
 
@@ -77,8 +75,7 @@ fn example(number: usize) -> Option<Case> {
     ];
     let (kind, kinds) = *examples.get(number)?;
     let grammar = image::read(&IMAGE).expect("the reference image is good");
-    let tagged = kinds.iter().zip(1..);
-    let tokens: Vec<Token> = tagged.map(|(&kind, tag)| Token { kind, tag }).collect();
+    let tokens = tokens::numbered(kinds.iter().copied());
     let derivation = derivation(&grammar, &tokens)?;
     let mut area = vec![0; area_bytes(MAX_SLOTS)];
     tree::write(&derivation, &derivation.in_slots(1..), &mut area);
@@ -97,12 +94,7 @@ fn some_tree(random: &mut Random) -> (&'static str, Grammar, Derivation) {
     loop {
         let (kind, grammar) = choices::ll1_grammar(random);
         let nodes = random.one_of(&[10, 40, 40, 300, MAX_SLOTS]);
-        let kinds = random_sentence::kinds(random, &grammar, nodes);
-        let with_tag = |kind| Token {
-            kind,
-            tag: token_damage::tag(random),
-        };
-        let tokens: Vec<Token> = kinds.into_iter().map(with_tag).collect();
+        let tokens = random_sentence::tokens(random, &grammar, nodes);
         // The least tree of a grammar may be too large.
         if let Some(derivation) = derivation(&grammar, &tokens) {
             return (kind, grammar, derivation);
@@ -112,9 +104,7 @@ fn some_tree(random: &mut Random) -> (&'static str, Grammar, Derivation) {
 
 /// The tree of a sentence, if it fits.
 fn derivation(grammar: &Grammar, tokens: &[Token]) -> Option<Derivation> {
-    let mut tables = [0; TABLE_BYTES];
-    tables::write(grammar, &Sets::of(grammar), &mut tables);
-    descent::parse(grammar, &tables, tokens, MAX_SLOTS).ok()
+    descent::parse(grammar, &tables::of(grammar), tokens, MAX_SLOTS).ok()
 }
 
 /// A tree in an area of any size, in the first slots or in any, in preorder

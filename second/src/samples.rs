@@ -3,8 +3,6 @@
 use crate::grammar::Grammar;
 use crate::image;
 use crate::reference::IMAGE;
-use crate::sets::Sets;
-use crate::tables::{self, TABLE_BYTES};
 use crate::tokens::{self, Token};
 
 /// A grammar from its parts.
@@ -29,13 +27,6 @@ pub fn image(t: u8, n: u8, start: u8, productions: &[(u8, &[u8])]) -> Vec<u8> {
 /// The reference grammar.
 pub fn reference() -> Grammar {
     image::read(&IMAGE).expect("the reference image is good")
-}
-
-/// The tables of an LL(1) grammar.
-pub fn tables(grammar: &Grammar) -> Vec<u8> {
-    let mut tables = [0; TABLE_BYTES];
-    tables::write(grammar, &Sets::of(grammar), &mut tables);
-    tables.to_vec()
 }
 
 /// Tokens of these kinds, no two with the same tag.

@@ -36,6 +36,13 @@ pub fn lowest_conflict(grammar: &Grammar, sets: &Sets) -> Option<u8> {
     in_conflict.lowest()
 }
 
+/// The tables of an LL(1) grammar without useless symbols.
+pub fn of(grammar: &Grammar) -> Vec<u8> {
+    let mut tables = [0; TABLE_BYTES];
+    write(grammar, &Sets::of(grammar), &mut tables);
+    tables.to_vec()
+}
+
 /// Writes the tables of an LL(1) grammar without useless symbols.
 pub fn write(grammar: &Grammar, sets: &Sets, tables: &mut [u8; TABLE_BYTES]) {
     tables.fill(0);

@@ -11,6 +11,12 @@ pub struct Token {
     pub tag: u32,
 }
 
+/// Tokens of these kinds, each with its number, from 1, as its tag.
+pub fn numbered(kinds: impl Iterator<Item = u8>) -> Vec<Token> {
+    let tagged = kinds.zip(1..);
+    tagged.map(|(kind, tag)| Token { kind, tag }).collect()
+}
+
 /// The tokens of these bytes, or the number of the first record that is cut
 /// or has a kind that is not 1..t.
 pub fn read(bytes: &[u8], t: u8) -> Result<Vec<Token>, usize> {

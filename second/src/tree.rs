@@ -78,13 +78,16 @@ pub struct Slot {
 
 impl Slot {
     fn bytes(self) -> [u8; SLOT_BYTES] {
-        let links = [self.parent, self.first_child, self.next_sibling].map(u16::to_le_bytes);
-        let mut bytes = [0; SLOT_BYTES];
-        bytes[..2].copy_from_slice(&NODE_MARK);
-        bytes[2] = self.symbol;
-        bytes[3] = self.production;
-        bytes[4..10].copy_from_slice(links.as_flattened());
-        bytes[10..14].copy_from_slice(&self.tag.to_le_bytes());
+        let [mark_0, mark_1] = NODE_MARK;
+        let [parent_0, parent_1] = self.parent.to_le_bytes();
+        let [child_0, child_1] = self.first_child.to_le_bytes();
+        let [next_0, next_1] = self.next_sibling.to_le_bytes();
+        let [tag_0, tag_1, tag_2, tag_3] = self.tag.to_le_bytes();
+        #[rustfmt::skip]
+        let bytes = [
+            mark_0, mark_1, self.symbol, self.production, parent_0, parent_1,
+            child_0, child_1, next_0, next_1, tag_0, tag_1, tag_2, tag_3, 0, 0,
+        ];
         bytes
     }
 
@@ -126,32 +129,24 @@ pub fn write(derivation: &Derivation, slot_of: &[u16], area: &mut [u8]) {
     };
     area.fill(0);
     header.write(area);
-    for (slot, &number) in linked(derivation, slot_of).iter().zip(slot_of) {
-        slot.write(area, number);
+    for ((number, node), &slot) in (0..).zip(&derivation.nodes).zip(slot_of) {
+        let link = |is_there: bool, number: u16| {
+            if is_there {
+                slot_of[usize::from(number)]
+            } else {
+                0
+            }
+        };
+        let content = Slot {
+            symbol: node.symbol,
+            production: node.production,
+            parent: link(number != 0, node.parent),
+            first_child: link(node.first_child != 0, node.first_child),
+            next_sibling: link(!node.is_last, number + 1),
+            tag: node.tag,
+        };
+        content.write(area, slot);
     }
-}
-
-/// What stands in the slot of each node.
-fn linked(derivation: &Derivation, slot_of: &[u16]) -> Vec<Slot> {
-    let unlinked = derivation.nodes.iter().map(|node| Slot {
-        symbol: node.symbol,
-        production: node.production,
-        parent: 0,
-        first_child: 0,
-        next_sibling: 0,
-        tag: node.tag,
-    });
-    let mut linked: Vec<Slot> = unlinked.collect();
-    for (number, node) in derivation.nodes.iter().enumerate() {
-        let mut next = 0;
-        for child in node.children.clone().rev() {
-            linked[child].parent = slot_of[number];
-            linked[child].next_sibling = next;
-            next = slot_of[child];
-        }
-        linked[number].first_child = next;
-    }
-    linked
 }
 
 /// What a valid tree holds.

@@ -23,7 +23,7 @@ fn reply(grammar: &Grammar, tables: &[u8], kinds: &[u8], slots: usize) -> Reply 
 
 fn book(kinds: &[u8], slots: usize) -> Reply {
     let grammar = samples::reference();
-    reply(&grammar, &samples::tables(&grammar), kinds, slots)
+    reply(&grammar, &tables::of(&grammar), kinds, slots)
 }
 
 /// A sentence with up to three changes, of any kind but a bad one.
@@ -67,7 +67,7 @@ fn example_f_a_terminal_expects_itself() {
 #[test]
 fn tokens_behind_a_whole_sentence_meet_the_end_mark() {
     let grammar = samples::grammar(2, 1, 3, &[(3, &[1])]);
-    let tables = samples::tables(&grammar);
+    let tables = tables::of(&grammar);
     assert_eq!(reply(&grammar, &tables, &[1, 2], 9), Reply::syntax(1, 1));
     assert_eq!(reply(&grammar, &tables, &[1, 1, 2], 9), Reply::syntax(1, 1));
 }
@@ -76,7 +76,7 @@ fn tokens_behind_a_whole_sentence_meet_the_end_mark() {
 fn an_empty_body_needs_no_slot() {
     let grammar = samples::grammar(1, 1, 2, &[(2, &[])]);
     assert_eq!(
-        reply(&grammar, &samples::tables(&grammar), &[], 1),
+        reply(&grammar, &tables::of(&grammar), &[], 1),
         Reply::parsed(1)
     );
 }
@@ -84,7 +84,7 @@ fn an_empty_body_needs_no_slot() {
 #[test]
 fn lookahead_31_has_the_highest_bit() {
     let grammar = samples::chain();
-    let tables = samples::tables(&grammar);
+    let tables = tables::of(&grammar);
     let highest = Reply::syntax(0, 1 << 31);
     assert_eq!(reply(&grammar, &tables, &[], 1), highest);
     assert_eq!(reply(&grammar, &tables, &[30], 1), highest);
@@ -95,26 +95,31 @@ fn lookahead_31_has_the_highest_bit() {
 #[test]
 fn the_children_of_each_node_are_a_body_in_order() {
     let grammar = samples::reference();
-    let tables = samples::tables(&grammar);
+    let tables = tables::of(&grammar);
     let tokens = samples::tokens(&[1, 2, 4, 2, 5]);
     let tree = parse(&grammar, &tables, &tokens, 1_000).expect("a sentence");
+    assert!(tree.nodes[0].is_last);
     let mut leaves = Vec::new();
-    for number in tree.preorder() {
-        let node = &tree.nodes[number];
+    for &number in &tree.preorder {
+        let node = &tree.nodes[usize::from(number)];
         if node.production == 0 {
             let Node { symbol, tag, .. } = *node;
             leaves.push(Token { kind: symbol, tag });
             continue;
         }
-        let symbols = tree.nodes[node.children.clone()].iter().map(|n| n.symbol);
-        let production = (node.symbol, symbols.collect());
-        assert_eq!(
-            grammar.productions[usize::from(node.production) - 1],
-            production
-        );
-        assert_eq!(node.tag, 0);
+        let (left, body) = &grammar.productions[usize::from(node.production) - 1];
+        assert_eq!((*left, 0), (node.symbol, node.tag));
+        assert_eq!(node.first_child == 0, body.is_empty());
+        let children = tree.nodes.iter().skip(node.first_child.into());
+        for (place, (symbol, child)) in body.iter().zip(children).enumerate() {
+            assert_eq!((child.symbol, child.parent), (*symbol, number));
+            assert_eq!(child.is_last, place + 1 == body.len());
+        }
     }
     assert_eq!(leaves, tokens);
+    let mut numbers = tree.preorder.clone();
+    numbers.sort();
+    assert_eq!(numbers, (0..tree.nodes.len() as u16).collect::<Vec<_>>());
 }
 
 #[test]
@@ -124,7 +129,7 @@ fn the_plain_parse_step_by_step_agrees_in_any_number_of_slots() {
         let random = &mut Random::of_case(21, case);
         let grammar = random_ll1::grammar(random);
         let sets = Sets::of(&grammar);
-        let tables = samples::tables(&grammar);
+        let tables = tables::of(&grammar);
         for _ in 0..8 {
             let nodes = random.one_of(&[10, 100, 1_000, 1_500]);
             let sentence = random_sentence::kinds(random, &grammar, nodes);
@@ -148,7 +153,7 @@ fn earleys_method_agrees_on_sentences_and_longest_beginnings() {
         let random = &mut Random::of_case(22, case);
         let grammar = random_ll1::grammar(random);
         let sets = Sets::of(&grammar);
-        let tables = samples::tables(&grammar);
+        let tables = tables::of(&grammar);
         for _ in 0..5 {
             let sentence = random_sentence::kinds(random, &grammar, 60);
             let mut kinds = changed(random, &grammar, sentence);
@@ -184,7 +189,7 @@ fn enumeration_agrees_on_all_short_sentences_of_small_grammars() {
 /// All sentences of up to three tokens are accepted exactly if enumeration
 /// finds them, and refused behind the longest beginning that it finds.
 fn assert_agrees_with_enumeration(grammar: &Grammar) {
-    let tables = samples::tables(grammar);
+    let tables = tables::of(grammar);
     let strings = enumeration::terminal_beginnings(grammar);
     let mut sentences = vec![Vec::new()];
     for _ in 0..3 {

@@ -22,7 +22,7 @@ impl Lent {
     fn new(kinds: &[u8], slots: usize) -> Lent {
         Lent {
             image: IMAGE.to_vec(),
-            tables: samples::tables(&samples::reference()),
+            tables: tables::of(&samples::reference()),
             tokens: samples::token_bytes(kinds),
             area: vec![0xaa; area_bytes(slots)],
             work: vec![0xbb; 3 * area_bytes(slots)],
@@ -222,7 +222,7 @@ fn accepted_trees_are_valid_and_hold_the_sentence_in_preorder_slots() {
         let slots = 1 + random.below(1_000);
         let mut lent = Lent {
             image: image::records(&grammar).concat(),
-            tables: samples::tables(&grammar),
+            tables: tables::of(&grammar),
             ..Lent::new(&kinds, slots)
         };
         let reply = lent.parse();

@@ -66,7 +66,7 @@ fn prepared_tables_are_sent_by_their_changes() {
 
 #[test]
 fn prepared_tables_are_changed_then_cut_or_lengthened() {
-    let right = samples::tables(&samples::reference());
+    let right = tables::of(&samples::reference());
     let bytes = |length, changes| Tables::Prepared { length, changes }.bytes(&IMAGE, 0x55);
     assert_eq!(bytes(TABLE_BYTES, Vec::new()), right);
     assert_eq!(bytes(2, vec![(1, 99)]), [right[0], 99]);

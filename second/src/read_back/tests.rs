@@ -4,12 +4,13 @@ use super::*;
 use crate::descent;
 use crate::reference::IMAGE;
 use crate::samples;
+use crate::tables;
 use crate::tree::area_bytes;
 
 /// The tree of these kinds, in the highest of twenty slots and backwards.
 fn area(kinds: &[u8]) -> Vec<u8> {
     let grammar = samples::reference();
-    let tables = samples::tables(&grammar);
+    let tables = tables::of(&grammar);
     let tree = descent::parse(&grammar, &tables, &samples::tokens(kinds), 20).expect("a tree");
     let mut area = vec![0; area_bytes(20)];
     tree::write(&tree, &tree.in_slots((1..=20).rev()), &mut area);

@@ -4,6 +4,7 @@ use super::*;
 use crate::derivation::Node;
 use crate::descent;
 use crate::samples;
+use crate::tables;
 
 /// The slots of U's nodes in preorder, of which there are twelve to take.
 const SLOTS: [u16; 9] = [5, 12, 1, 7, 3, 11, 10, 2, 8];
@@ -25,7 +26,7 @@ const SPARE: u16 = 4;
 fn area() -> Vec<u8> {
     let grammar = samples::reference();
     let tokens = samples::tokens(&[1, 2, 5]);
-    let tree = descent::parse(&grammar, &samples::tables(&grammar), &tokens, 9).expect("U");
+    let tree = descent::parse(&grammar, &tables::of(&grammar), &tokens, 9).expect("U");
     let mut area = vec![0xaa; area_bytes(12)];
     write(&tree, &tree.in_slots(SLOTS), &mut area);
     area
@@ -74,20 +75,22 @@ fn a_tree_is_written_byte_by_byte() {
     let nodes = vec![
         Node {
             production: 1,
-            children: 1..3,
-            ..Node::of(3)
+            first_child: 1,
+            ..Node::root(3)
         },
         Node {
             tag: 0x0403_0201,
-            ..Node::of(1)
+            ..Node::of(1, 0)
         },
         Node {
             production: 2,
-            ..Node::of(4)
+            is_last: true,
+            ..Node::of(4, 0)
         },
     ];
+    let preorder = vec![0, 1, 2];
     let mut area = [0xaa; area_bytes(5)];
-    write(&Derivation { nodes }, &[2, 4, 1], &mut area);
+    write(&Derivation { nodes, preorder }, &[2, 4, 1], &mut area);
     #[rustfmt::skip]
     let expected = [
         0x54, 0x52, 2, 0, 3, 0, 1, 0, 0, 0, 0, 0, 0, 0, 0, 0,
@@ -279,7 +282,7 @@ fn links_to_any_other_slot_are_wrong() {
 fn a_body_that_repeats_a_symbol_needs_a_slot_for_each() {
     let grammar = samples::grammar(1, 1, 2, &[(2, &[1, 1])]);
     let tokens = samples::tokens(&[1, 1]);
-    let tree = descent::parse(&grammar, &samples::tables(&grammar), &tokens, 3).expect("a tree");
+    let tree = descent::parse(&grammar, &tables::of(&grammar), &tokens, 3).expect("a tree");
     let mut area = vec![0; area_bytes(3)];
     write(&tree, &[1, 2, 3], &mut area);
     assert!(read(&grammar, &area).is_some());
@@ -379,7 +382,7 @@ fn tags_are_carried_by_leaves_alone() {
 fn a_tree_as_deep_as_can_be_is_read() {
     let grammar = samples::grammar(1, 1, 2, &[(2, &[1, 2]), (2, &[])]);
     let tokens = samples::tokens(&[1; 499]);
-    let tables = samples::tables(&grammar);
+    let tables = tables::of(&grammar);
     let tree = descent::parse(&grammar, &tables, &tokens, 1_000).expect("a tree");
     let mut area = vec![0; area_bytes(1_000)];
     write(&tree, &tree.in_slots((1..=1_000).rev()), &mut area);
