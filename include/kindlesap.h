@@ -55,12 +55,12 @@ extern "C" {
  *   5   the tree area's length is wrong; in read back also no valid tree        0
  *   6   the work area is shorter than three times the tree area                 length needed
  *   7   the token bytes end inside a record, or a kind is not 1..t              first bad record, from 0
- *   9   syntax: the sentence is not in the language                             token
- *  10   no room: the tree has more nodes than the area has slots                0
+ *   9   syntax, as told at parse                                                token
+ *  10   no room, as told at parse                                               0
  *  11   the output is shorter than 5 bytes a token                              bytes needed
  *
- * They are tried in this order, each call taking those that concern it; between 9 and 10 the plain parse decides (see parse). Only reply 9
- * has an expected set. Total is the number of nodes in the stored tree; parse has total and made, read back has total. Fields not named
+ * They are tried in this order, each call taking those that concern it; between 9 and 10 the plain parse decides. Only reply 9 has an
+ * expected set. Total is the number of nodes in the stored tree; parse has total and made, read back has total. Fields not named
  * are 0.
  */
 #define KINDLESAP_REPLY_SIZE 32
