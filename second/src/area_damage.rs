@@ -1,7 +1,7 @@
 //! Changes of an area that holds a valid tree. Most leave it no valid tree,
 //! and each rule has changes that break it alone.
 
-use crate::grammar::Grammar;
+use crate::grammar::{Grammar, Production};
 use crate::random::Random;
 use crate::tree::{self, area_bytes, Header, Slot, MAX_SLOTS, SLOT_BYTES};
 
@@ -14,7 +14,7 @@ const AREA_BOUND: usize = 20_000;
 /// A change of an area under a grammar.
 type Change = fn(&mut Random, &Grammar, &mut Area);
 
-const CHANGES: [(&str, Change); 27] = [
+const CHANGES: [(&str, Change); 29] = [
     ("flipped bits", flip_bits),
     ("flipped bits of header or slot", flip_slot_bits),
     ("another count", another_count),
@@ -29,6 +29,7 @@ const CHANGES: [(&str, Change); 27] = [
     ("stray byte among zeros", stray_among_zeros),
     ("tag of a nonterminal", tag_of_nonterminal),
     ("another production", another_production),
+    ("another left side", another_left_side),
     ("another symbol", another_symbol),
     ("second root", second_root),
     ("second tree", second_tree),
@@ -37,6 +38,7 @@ const CHANGES: [(&str, Change); 27] = [
     ("siblings exchanged", exchange_siblings),
     ("subtrees exchanged", exchange_subtrees),
     ("slot freed", free_slot),
+    ("subtree alone", subtree_alone),
     ("wrong mark", wrong_mark),
     ("another tag", another_tag),
     ("random bytes", random_bytes),
@@ -290,14 +292,30 @@ fn another_production(random: &mut Random, grammar: &Grammar, area: &mut Area) {
     let number = area.some_used(random);
     let symbol = area.slot(number).symbol;
     let numbered = grammar.numbered();
-    let mut choices: Vec<u8> = numbered
-        .filter(|(_, (left, _))| *left == symbol)
-        .map(|(number, _)| number)
-        .collect();
+    let of_symbol = numbered.filter(|(_, (left, _))| *left == symbol);
+    let mut choices: Vec<u8> = of_symbol.map(|(number, _)| number).collect();
     let count = grammar.productions.len() as u8;
     choices.extend([0, count + 1, random.between(0, u8::MAX)]);
     let production = random.one_of(&choices);
     area.change(number, |slot| slot.production = production);
+}
+
+/// A slot gets a production with the same body but another left side, if some
+/// slot can.
+fn another_left_side(random: &mut Random, grammar: &Grammar, area: &mut Area) {
+    let others = |slot: &Slot| -> Vec<u8> {
+        let mut numbered = grammar.numbered();
+        let Some((_, (own, body))) = numbered.find(|(number, _)| *number == slot.production) else {
+            return Vec::new();
+        };
+        let is_other = |(left, other): &Production| left != own && other == body;
+        let others = grammar.numbered().filter(|(_, other)| is_other(other));
+        others.map(|(number, _)| number).collect()
+    };
+    if let Some(number) = area.some(random, |slot| !others(slot).is_empty()) {
+        let production = random.one_of(&others(&area.slot(number)));
+        area.change(number, |slot| slot.production = production);
+    }
 }
 
 fn another_symbol(random: &mut Random, grammar: &Grammar, area: &mut Area) {
@@ -425,6 +443,33 @@ fn exchange_subtrees(random: &mut Random, _: &Grammar, area: &mut Area) {
         area.change(one, |slot| slot.production = other_production);
         area.change(other, |slot| slot.production = one_production);
     }
+}
+
+/// A subtree becomes the whole tree; the counts are right.
+fn subtree_alone(random: &mut Random, _: &Grammar, area: &mut Area) {
+    let root = area.some_used(random);
+    area.change(root, |slot| {
+        slot.parent = 0;
+        slot.next_sibling = 0;
+    });
+    let mut below = vec![root];
+    let mut reached = 0;
+    while let Some(&number) = below.get(reached) {
+        below.extend(area.children(number));
+        reached += 1;
+    }
+    let is_leaf = |&&number: &&u16| area.slot(number).production == 0;
+    let header = Header {
+        root,
+        used: below.len() as u16,
+        tokens: below.iter().filter(is_leaf).count() as u16,
+    };
+    for number in area.used.clone() {
+        if !below.contains(&number) {
+            area.free(number);
+        }
+    }
+    header.write(area.bytes);
 }
 
 /// A used slot becomes zero, counted still or not.

@@ -161,7 +161,7 @@ fn cases_get_every_reply_and_a_fifth_of_them_is_accepted() {
 
 #[test]
 fn cases_reach_every_length() {
-    let cases: Vec<Case> = (0..3_000).map(|number| case(2, number)).collect();
+    let cases: Vec<Case> = (0..1_500).map(|number| case(2, number)).collect();
     let some = |wanted: &dyn Fn(&Case) -> bool| cases.iter().any(wanted);
     assert!((0..=40).all(|length| some(&|case| case.reply_length == length)));
     assert!([0, 1, 33_791, 33_792, 33_793]
@@ -181,13 +181,13 @@ fn cases_reach_every_length() {
 fn some_accepted_trees_are_large_and_some_fill_their_area() {
     let mut large = 0;
     let mut full = 0;
-    for number in 0..2_000 {
+    for number in 0..1_000 {
         let case = case(2, number);
         let (reply, _) = case.expected();
         large += usize::from(reply.total > 900);
         full += usize::from(reply.total > 1 && area_bytes(reply.total as usize) == case.area.len());
     }
-    assert!(large > 20 && full > 50, "{large} large, {full} full");
+    assert!(large > 10 && full > 25, "{large} large, {full} full");
 }
 
 #[test]

@@ -119,12 +119,12 @@ fn every_change_of_an_area_is_made_and_all_but_a_few_break_some() {
             .count(),
         1
     );
-    assert!(replies.len() > 27, "{:?}", replies.keys());
+    assert!(replies.len() > 29, "{:?}", replies.keys());
 }
 
 #[test]
 fn trees_stand_in_any_slots_and_areas_have_any_size() {
-    let cases: Vec<Case> = (0..2_000).map(|number| case(2, number)).collect();
+    let cases: Vec<Case> = (0..800).map(|number| case(2, number)).collect();
     let some = |wanted: &dyn Fn(&Case) -> bool| cases.iter().any(wanted);
     assert!(some(&|case| case.area.len() == area_bytes(1)));
     assert!(some(&|case| case.area.len() == area_bytes(1_000)));
