@@ -1,6 +1,6 @@
-//! Tree areas: a header of 16 bytes, then S slots of 16 bytes, numbered from
-//! 1. A tree is written into any slots; reading finds the sentence of a valid
-//! tree, and nothing in any other area.
+//! Tree areas: a header of 16 bytes, then S slots of 16 bytes, the first of
+//! which is slot 1. A tree is written into any slots; reading finds the
+//! sentence of a valid tree, and nothing in any other area.
 
 use crate::derivation::Derivation;
 use crate::grammar::Grammar;
