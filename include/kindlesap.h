@@ -5,7 +5,8 @@
  * the caller lends every buffer, as a pointer and a length. Lent buffers must not overlap. A buffer of length 0 may come with any pointer,
  * NULL too. Nothing is kept after the call returns.
  *
- * Any refusal leaves every lent buffer as it was, except the reply.
+ * Any refusal leaves every lent buffer as it was, except the reply and the work area. A call with a work area leaves the whole of it zero,
+ * whichever reply it gives.
  */
 #ifndef KINDLESAP_H
 #define KINDLESAP_H
@@ -20,6 +21,25 @@ extern "C" {
 /* Tables are exactly this long. */
 #define KINDLESAP_TABLES_SIZE 33792
 
+/* A token is 5 bytes: kind 1..t, then a 32-bit tag that is carried and never interpreted. All numbers are little-endian. */
+#define KINDLESAP_TOKEN_SIZE 5
+
+/*
+ * A tree area has 1 to KINDLESAP_MAX_SLOTS slots, numbered from 1, and is exactly KINDLESAP_TREE_SIZE(slots) bytes.
+ *
+ *   header   `54 52`, root slot (2), used slots (2), tokens (2), eight zeros
+ *   slot     `4E 44`, symbol (1), production (1; 0 for a leaf), parent, first child and next sibling (2 each, 0 for none), tag (4; 0 unless a
+ *            leaf), two zeros; a free slot is all zero
+ *
+ * A tree is valid exactly when it is one derivation tree of a sentence from the start symbol, every used slot is reached from the root once,
+ * all links and counts are right, and free slots are zero. An all-zero area is no tree.
+ */
+#define KINDLESAP_MAX_SLOTS 1000
+#define KINDLESAP_TREE_SIZE(slots) (16 + 16 * (size_t)(slots))
+
+/* A work area is at least this long for a tree area with so many slots. */
+#define KINDLESAP_WORK_SIZE(slots) (3 * KINDLESAP_TREE_SIZE(slots))
+
 /*
  * A reply is 32 bytes, little-endian: number (4), place (8), expected (4), then the counts total, kept, made, given up (4 each).
  * As much of it is written as the reply buffer holds; bytes beyond 32 stay as they were.
@@ -30,9 +50,18 @@ extern "C" {
  *   2   a nonterminal derives no terminal string (the empty one counts), or
  *       no string derived from the start symbol holds it                        lowest such symbol
  *   3   the grammar is not LL(1)                                                lowest nonterminal in conflict
- *   4   the tables are of another length                                        0
+ *   4   the tables are of another length; in parse also not what prepare
+ *       writes                                                                  0
+ *   5   the tree area's length is wrong; in read back also no valid tree        0
+ *   6   the work area is shorter than three times the tree area                 length needed
+ *   7   the token bytes end inside a record, or a kind is not 1..t              first bad record, from 0
+ *   9   syntax, as told at parse                                                token
+ *  10   no room, as told at parse                                               0
+ *  11   the output is shorter than 5 bytes a token                              bytes needed
  *
- * They are tried in this order. Fields not named are 0.
+ * They are tried in this order, each call taking those that concern it; between 9 and 10 the plain parse decides. Only reply 9 has an
+ * expected set. Total is the number of nodes in the stored tree; parse has total and made, read back has total. Fields not named
+ * are 0.
  */
 #define KINDLESAP_REPLY_SIZE 32
 
@@ -41,6 +70,12 @@ extern "C" {
 #define KINDLESAP_USELESS_SYMBOL 2
 #define KINDLESAP_NOT_LL1 3
 #define KINDLESAP_WRONG_TABLES 4
+#define KINDLESAP_WRONG_TREE 5
+#define KINDLESAP_SHORT_WORK 6
+#define KINDLESAP_BAD_TOKEN 7
+#define KINDLESAP_SYNTAX 9
+#define KINDLESAP_NO_ROOM 10
+#define KINDLESAP_SHORT_OUTPUT 11
 
 /*
  * Prepares the tables of a grammar image.
@@ -51,6 +86,29 @@ extern "C" {
  * 129th production. Replies 1, 2, 3, 4. If accepted, all KINDLESAP_TABLES_SIZE bytes of the tables are written.
  */
 void kindlesap_prepare(const uint8_t *grammar, size_t grammar_len, uint8_t *tables, size_t tables_len, uint8_t *reply, size_t reply_len);
+
+/*
+ * Parses a sentence of tokens into a tree area, whose earlier contents do not matter. The tables are those that prepare writes for the
+ * grammar. Replies 1, 2, 3, 4, 5, 6, 7, 9, 10.
+ *
+ * The plain parse begins with the start symbol, one node. With M on top and lookahead a (0 at the end of the sentence): a predicted
+ * production replaces M by its body and adds one node per body symbol; a terminal M equal to a is matched; no symbols left and lookahead 0
+ * accepts. Otherwise reply 9. If an expansion would bring the count of nodes above the number of slots, reply 10. The first of these to
+ * occur is the reply. Expected set in reply 9: bit a for each lookahead with a prediction for M; only M's bit if M is a terminal; only bit
+ * 0 if nothing is left. Its place equals the number of tokens in the longest beginning of the sentence that also begins some sentence of
+ * the language.
+ *
+ * If accepted, the whole area is written, the nodes in slots 1, 2, .. in preorder. The work area becomes zero whichever the reply and
+ * whatever its length.
+ */
+void kindlesap_parse(const uint8_t *grammar, size_t grammar_len, const uint8_t *tables, size_t tables_len, const uint8_t *tokens, size_t tokens_len,
+                     uint8_t *tree, size_t tree_len, uint8_t *work, size_t work_len, uint8_t *reply, size_t reply_len);
+
+/*
+ * Reads the tokens of a valid tree back into the output: 5 bytes a token and nothing beyond. Replies 1, 2, 3, 5, 11.
+ */
+void kindlesap_read_back(const uint8_t *grammar, size_t grammar_len, const uint8_t *tree, size_t tree_len, uint8_t *output, size_t output_len,
+                         uint8_t *reply, size_t reply_len);
 
 #ifdef __cplusplus
 }

@@ -1,10 +1,19 @@
-//! How long prepare takes, next to a plain copy of as many bytes as it writes.
+//! How long the calls take, next to plain copies of the buffers concerned.
 
+use crate::parse::{self, WORK_AREAS};
 use crate::prepare;
+use crate::read_back;
+use crate::reply::Reply;
 use crate::tables::TABLE_BYTES;
+use crate::tokens::{self, TOKEN_BYTES};
+use crate::tree::{self, area_bytes, MAX_SLOTS};
 use std::hint::black_box;
 use std::num::NonZeroU32;
 use std::time::Instant;
+
+/// The length of the tree area of 1,000 slots and of its work area.
+const AREA_BYTES: usize = area_bytes(MAX_SLOTS);
+const WORK_BYTES: usize = WORK_AREAS * AREA_BYTES;
 
 /// A line with the nanoseconds of one call of prepare, whichever reply it
 /// gives, and those of one copy of the tables.
@@ -13,11 +22,88 @@ pub fn prepare(count: NonZeroU32, image: &[u8]) -> String {
     let call = nanoseconds(count, || {
         black_box(prepare::prepare(black_box(image), black_box(&mut tables)));
     });
-    let source = tables;
-    let copy = nanoseconds(count, || {
-        black_box(&mut tables).copy_from_slice(black_box(&source));
-    });
+    let copy = copy_nanoseconds(count, TABLE_BYTES);
     format!("prepare {call} copy {copy}")
+}
+
+/// A line with the nanoseconds of one call of parse into 1,000 slots, of the
+/// parse alone when all is checked, and of one copy of the tree area, of the
+/// tables and of the work area; or the refusal of the sentence.
+pub fn parse(count: NonZeroU32, image: &[u8], token_bytes: &[u8]) -> Result<String, String> {
+    let mut tables = [0; TABLE_BYTES];
+    prepare::prepare(image, &mut tables);
+    let mut area = vec![0; AREA_BYTES];
+    let mut work = vec![0; WORK_BYTES];
+    accepted(parse::parse(
+        image,
+        &tables,
+        token_bytes,
+        &mut area,
+        &mut work,
+    ))?;
+    let call = nanoseconds(count, || {
+        let (area, work) = (black_box(&mut area), black_box(&mut work));
+        black_box(parse::parse(image, &tables, token_bytes, area, work));
+    });
+    let (grammar, _) = prepare::ll1_grammar(image).expect("parse accepts the image");
+    let tokens = tokens::read(token_bytes, grammar.t).expect("parse accepts the tokens");
+    let alone = nanoseconds(count, || {
+        let area = black_box(&mut area);
+        black_box(parse::write_tree(&grammar, &tables, &tokens, area)).ok();
+    });
+    let [tree, tables, work] =
+        [AREA_BYTES, TABLE_BYTES, WORK_BYTES].map(|length| copy_nanoseconds(count, length));
+    Ok(format!(
+        "parse {call} alone {alone} copy-tree {tree} copy-tables {tables} copy-work {work}"
+    ))
+}
+
+/// A line with the nanoseconds of one call of read back from 1,000 slots, of
+/// the walk that tells a valid tree alone, and of one copy of the tree area
+/// and of the tokens; or the refusal of the sentence.
+pub fn read_back(count: NonZeroU32, image: &[u8], token_bytes: &[u8]) -> Result<String, String> {
+    let mut tables = [0; TABLE_BYTES];
+    prepare::prepare(image, &mut tables);
+    let mut area = vec![0; AREA_BYTES];
+    let mut work = vec![0; WORK_BYTES];
+    accepted(parse::parse(
+        image,
+        &tables,
+        token_bytes,
+        &mut area,
+        &mut work,
+    ))?;
+    let mut output = vec![0; MAX_SLOTS * TOKEN_BYTES];
+    let call = nanoseconds(count, || {
+        let output = black_box(&mut output);
+        black_box(read_back::read_back(image, black_box(&area), output));
+    });
+    let (grammar, _) = prepare::ll1_grammar(image).expect("parse accepts the image");
+    let walk = nanoseconds(count, || {
+        black_box(tree::read(&grammar, black_box(&area)));
+    });
+    let [tree, tokens] =
+        [AREA_BYTES, token_bytes.len()].map(|length| copy_nanoseconds(count, length));
+    Ok(format!(
+        "read-back {call} walk {walk} copy-tree {tree} copy-tokens {tokens}"
+    ))
+}
+
+/// A refusal as an error.
+fn accepted(reply: Reply) -> Result<(), String> {
+    if reply.is_accepted() {
+        Ok(())
+    } else {
+        Err(format!("refused {} {}", reply.number, reply.place))
+    }
+}
+
+/// The mean time of one copy of this many bytes in nanoseconds.
+fn copy_nanoseconds(count: NonZeroU32, length: usize) -> u128 {
+    let (source, mut target) = (vec![1; length], vec![0; length]);
+    nanoseconds(count, || {
+        black_box(&mut target).copy_from_slice(black_box(&source));
+    })
 }
 
 /// The mean time of one call in nanoseconds.
@@ -32,14 +118,46 @@ fn nanoseconds(count: NonZeroU32, mut call: impl FnMut()) -> u128 {
 #[cfg(test)]
 mod tests {
     use super::*;
+    use crate::book;
     use crate::reference::IMAGE;
+    use crate::samples;
+
+    /// The words of a line, which takes turns with times.
+    fn words(line: &str) -> Vec<&str> {
+        let fields: Vec<&str> = line.split(' ').collect();
+        let (words, times): (Vec<&str>, Vec<&str>) =
+            fields.chunks(2).map(|pair| (pair[0], pair[1])).unzip();
+        assert!(times.iter().all(|time| time.parse::<u64>().is_ok()));
+        words
+    }
 
     #[test]
-    fn the_line_holds_both_times() {
+    fn the_line_of_prepare_holds_both_times() {
         let line = prepare(NonZeroU32::MIN, &IMAGE);
-        let words: Vec<&str> = line.split(' ').collect();
-        assert!(matches!(words[..], ["prepare", _, "copy", _]));
-        assert!(words[1].parse::<u64>().is_ok() && words[3].parse::<u64>().is_ok());
+        assert_eq!(words(&line), ["prepare", "copy"]);
+    }
+
+    #[test]
+    fn the_lines_of_parse_and_read_back_hold_all_times() {
+        let book = tokens::bytes(&book::tokens(93));
+        let line = parse(NonZeroU32::MIN, &IMAGE, &book).expect("a book");
+        assert_eq!(
+            words(&line),
+            ["parse", "alone", "copy-tree", "copy-tables", "copy-work"]
+        );
+        let line = read_back(NonZeroU32::MIN, &IMAGE, &book).expect("a book");
+        assert_eq!(
+            words(&line),
+            ["read-back", "walk", "copy-tree", "copy-tokens"]
+        );
+    }
+
+    #[test]
+    fn a_refused_sentence_is_an_error() {
+        let tokens = samples::token_bytes(&[1, 2]);
+        let refused = Err("refused 9 2".to_string());
+        assert_eq!(parse(NonZeroU32::MIN, &IMAGE, &tokens), refused);
+        assert_eq!(read_back(NonZeroU32::MIN, &IMAGE, &tokens), refused);
     }
 
     #[test]

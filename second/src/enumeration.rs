@@ -41,6 +41,33 @@ fn derived(grammar: &Grammar, from: u8, bounds: Bounds) -> HashSet<Vec<u8>> {
     found
 }
 
+/// Which short terminal strings a grammar without useless symbols has.
+pub struct TerminalStrings {
+    pub sentences: HashSet<Vec<u8>>,
+    /// The beginnings of sentences: from every string that the start derives,
+    /// one goes on to a sentence.
+    pub beginnings: HashSet<Vec<u8>>,
+}
+
+/// The sentences and their beginnings, as far as the strings within bounds
+/// show them.
+pub fn terminal_beginnings(grammar: &Grammar) -> TerminalStrings {
+    let mut strings = TerminalStrings {
+        sentences: HashSet::new(),
+        beginnings: HashSet::new(),
+    };
+    for string in derived(grammar, grammar.start, LARGE_BOUNDS) {
+        let is_terminal = |symbol: &&u8| grammar.terminals().contains(symbol);
+        let length = string.iter().take_while(is_terminal).count();
+        let beginnings = (0..=length).map(|length| string[..length].to_vec());
+        strings.beginnings.extend(beginnings);
+        if length == string.len() {
+            strings.sentences.insert(string);
+        }
+    }
+    strings
+}
+
 /// The strings that one production at one place makes of a string.
 fn one_step(grammar: &Grammar, string: &[u8]) -> Vec<Vec<u8>> {
     let mut next = Vec::new();

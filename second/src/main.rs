@@ -6,44 +6,76 @@
 //! rustc -O --edition 2021 --test second/src/main.rs -o second-tests
 //! ```
 
+mod area_damage;
 mod bench;
+mod book;
+mod calls;
+mod choices;
 mod compare;
 mod damage;
+mod derivation;
+mod descent;
 mod grammar;
 mod image;
+mod listing;
+mod listing_input;
+mod parse;
+mod parse_case;
 mod per_symbol;
 mod prepare;
 mod prepare_case;
-mod prepares;
 mod random;
 mod random_grammar;
 mod random_ll1;
+mod random_sentence;
+mod read_back;
+mod read_back_case;
 mod reference;
 mod reply;
 mod sets;
 mod show;
 mod symbol_set;
 mod tables;
+mod token_damage;
+mod tokens;
+mod tree;
 
 #[cfg(test)]
+mod earley;
+#[cfg(test)]
 mod enumeration;
+#[cfg(test)]
+mod plain_parse;
 #[cfg(test)]
 mod samples;
 
 use std::error::Error;
-use std::io::{self, Read};
+use std::io::{self, Read, Write};
 use std::process::{Command, ExitCode};
 
 const USAGE: &str = "usage:
   second show FILE|-                 the grammar that an image holds
   second prepare FILE|-              the reply of prepare and the table bytes that are not 0
+  second listing                     what `listing` prints for token bytes on standard input
   second images SEED COUNT PROGRAM [ARGUMENT ..]
                                      compare PROGRAM with `show -` on COUNT images
+  second listings SEED COUNT PROGRAM [ARGUMENT ..]
+                                     the same with `listing` on COUNT lists of token bytes
   second prepares SEED COUNT PROGRAM [ARGUMENT ..]
                                      compare PROGRAM with prepare on COUNT cases, which it
                                      takes on standard input and answers on standard output
+  second parses SEED COUNT PROGRAM [ARGUMENT ..]
+  second reads SEED COUNT PROGRAM [ARGUMENT ..]
+                                     the same with parse and with read back
+  second book RULES                  the token bytes of a book with RULES rules
   second bench-prepare COUNT FILE|-  nanoseconds of prepare and of copying the tables, each
-                                     the mean of COUNT calls";
+                                     the mean of COUNT calls
+  second bench-parse COUNT GRAMMAR TOKENS
+                                     the same of parse into 1,000 slots, of the parse alone
+                                     when all is checked, and of copying tree, tables and work
+  second bench-read-back COUNT GRAMMAR TOKENS
+                                     the same of read back, of the walk that tells a valid
+                                     tree alone, and of copying tree and tokens";
 
 /// Exit status for a command that could not be carried out.
 const NOT_RUN: u8 = 2;
@@ -68,24 +100,65 @@ fn run(words: &[&str]) -> Result<ExitCode, Box<dyn Error>> {
             print!("{}", show::tables_text(&read_source(source)?));
             Ok(ExitCode::SUCCESS)
         }
+        ["listing"] => {
+            print!("{}", listing::listing(&read_source("-")?));
+            Ok(ExitCode::SUCCESS)
+        }
         ["images", seed, count, program, ref arguments @ ..] => {
             let ask = |image: &[u8]| compare::ask_program(program, arguments, image);
             let failed = compare::images(seed.parse()?, count.parse()?, ask, &mut io::stdout())?;
             Ok(status(failed))
         }
-        ["prepares", seed, count, program, ref arguments @ ..] => {
-            let mut command = Command::new(program);
-            command.args(arguments);
-            let (seed, count) = (seed.parse()?, count.parse()?);
-            let failed = prepares::prepares(seed, count, &mut command, &mut io::stdout())?;
+        ["listings", seed, count, program, ref arguments @ ..] => {
+            let ask = |tokens: &[u8]| compare::ask_program(program, arguments, tokens);
+            let failed = compare::listings(seed.parse()?, count.parse()?, ask, &mut io::stdout())?;
             Ok(status(failed))
+        }
+        ["prepares", seed, count, ref command @ ..] => {
+            compare_calls(prepare_case::case, seed, count, command)
+        }
+        ["parses", seed, count, ref command @ ..] => {
+            compare_calls(parse_case::case, seed, count, command)
+        }
+        ["reads", seed, count, ref command @ ..] => {
+            compare_calls(read_back_case::case, seed, count, command)
         }
         ["bench-prepare", count, source] => {
             println!("{}", bench::prepare(count.parse()?, &read_source(source)?));
             Ok(ExitCode::SUCCESS)
         }
+        ["book", rules] => {
+            let book = book::tokens(rules.parse()?);
+            io::stdout().write_all(&tokens::bytes(&book))?;
+            Ok(ExitCode::SUCCESS)
+        }
+        ["bench-parse", count, image, tokens] => {
+            let (image, tokens) = (read_source(image)?, read_source(tokens)?);
+            println!("{}", bench::parse(count.parse()?, &image, &tokens)?);
+            Ok(ExitCode::SUCCESS)
+        }
+        ["bench-read-back", count, image, tokens] => {
+            let (image, tokens) = (read_source(image)?, read_source(tokens)?);
+            println!("{}", bench::read_back(count.parse()?, &image, &tokens)?);
+            Ok(ExitCode::SUCCESS)
+        }
         _ => Err(USAGE.into()),
     }
+}
+
+/// Compares the calls of a program, which comes with its arguments.
+fn compare_calls<C: calls::Case>(
+    case: fn(u64, usize) -> C,
+    seed: &str,
+    count: &str,
+    command: &[&str],
+) -> Result<ExitCode, Box<dyn Error>> {
+    let (program, arguments) = command.split_first().ok_or(USAGE)?;
+    let mut command = Command::new(program);
+    command.args(arguments);
+    let (seed, count) = (seed.parse()?, count.parse()?);
+    let failed = calls::calls(case, seed, count, &mut command, &mut io::stdout())?;
+    Ok(status(failed))
 }
 
 /// Success if no case failed.

@@ -1,6 +1,7 @@
 //! The call prepare: it writes the tables of an image's grammar, or gives the
 //! first of replies 1, 2, 3 and 4 that applies.
 
+use crate::grammar::Grammar;
 use crate::image;
 use crate::reply::Reply;
 use crate::sets::Sets;
@@ -14,6 +15,15 @@ pub fn prepare(image: &[u8], tables: &mut [u8]) -> Reply {
 
 /// Writes the tables, or gives the refusal.
 fn write_tables(image: &[u8], tables: &mut [u8]) -> Result<(), Reply> {
+    let (grammar, sets) = ll1_grammar(image)?;
+    let tables = tables.try_into().map_err(|_| Reply::WRONG_TABLES)?;
+    tables::write(&grammar, &sets, tables);
+    Ok(())
+}
+
+/// The grammar of an image and its sets, or the first of replies 1, 2 and 3
+/// that applies.
+pub fn ll1_grammar(image: &[u8]) -> Result<(Grammar, Sets), Reply> {
     let grammar = image::read(image).map_err(Reply::bad_record)?;
     let sets = Sets::of(&grammar);
     if let Some(symbol) = sets.lowest_useless(&grammar) {
@@ -22,9 +32,7 @@ fn write_tables(image: &[u8], tables: &mut [u8]) -> Result<(), Reply> {
     if let Some(symbol) = tables::lowest_conflict(&grammar, &sets) {
         return Err(Reply::conflict(symbol));
     }
-    let tables = tables.try_into().map_err(|_| Reply::OTHER_LENGTH)?;
-    tables::write(&grammar, &sets, tables);
-    Ok(())
+    Ok((grammar, sets))
 }
 
 #[cfg(test)]
@@ -38,7 +46,11 @@ mod tests {
         let mut tables = [0xaa; TABLE_BYTES];
         assert_eq!(
             prepare(image, &mut tables),
-            Reply { number, place },
+            Reply {
+                number,
+                place,
+                ..Reply::ACCEPTED
+            },
             "image {image:02x?}"
         );
         assert_eq!(tables, [0xaa; TABLE_BYTES]);

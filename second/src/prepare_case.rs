@@ -1,8 +1,9 @@
 //! Cases of prepare for comparing: an image, the lengths of the lent buffers,
 //! the byte that fills them before the call, and the answer that is right.
 
-use crate::damage;
-use crate::grammar::{Grammar, MAX_BODY, MAX_NONTERMINALS, MAX_PRODUCTIONS};
+use crate::calls::{self, Answer};
+use crate::choices;
+use crate::grammar::Grammar;
 use crate::image;
 use crate::prepare::prepare;
 use crate::random::Random;
@@ -10,15 +11,12 @@ use crate::random_grammar;
 use crate::random_ll1;
 use crate::reference::IMAGE;
 use crate::reply::{Reply, REPLY_BYTES};
+use crate::show;
 use crate::tables::TABLE_BYTES;
-use std::io::{self, Error, ErrorKind, Read};
+use std::io::{self, Read};
 
 /// The byte with which a case of prepare begins.
 const PREPARE: u8 = b'P';
-
-/// Tables and replies of a case are shorter than these.
-const TABLES_BOUND: usize = 70_000;
-const REPLY_BOUND: usize = 41;
 
 /// A case of prepare.
 #[derive(Debug, PartialEq)]
@@ -28,13 +26,6 @@ pub struct Case {
     pub tables_length: usize,
     pub reply_length: usize,
     pub fill: u8,
-}
-
-/// The lent buffers after the call.
-#[derive(Clone, Debug, PartialEq)]
-pub struct Answer {
-    pub reply: Vec<u8>,
-    pub tables: Vec<u8>,
 }
 
 /// A case of a seed. The first cases are the reference image and example L;
@@ -55,8 +46,8 @@ pub fn case(seed: u64, number: usize) -> Case {
         kind,
         image,
         tables_length: tables_length(&mut random),
-        reply_length: reply_length(&mut random),
-        fill: fill(&mut random),
+        reply_length: choices::reply_length(&mut random),
+        fill: choices::fill(&mut random),
     }
 }
 
@@ -79,103 +70,77 @@ fn fixed_images() -> [(&'static str, Vec<u8>); 4] {
 /// The image of a case by its number, and how it came about.
 fn some_image(number: usize, random: &mut Random) -> (&'static str, Vec<u8>) {
     let whole = |grammar: &Grammar| image::records(grammar).concat();
+    let grammar = match number % 8 {
+        0 | 2 => random_grammar::any(random),
+        _ => random_ll1::grammar(random),
+    };
     match number % 8 {
-        0 => ("any", whole(&random_grammar::any(random))),
-        1 => ("nearly LL(1)", whole(&nearly_ll1(random))),
-        2 => {
-            let grammar = random_grammar::any(random);
-            damaged(&grammar, random)
+        0 => ("any grammar", whole(&grammar)),
+        1 => {
+            let nearly = choices::nearly_ll1(random, &grammar);
+            ("nearly LL(1)", whole(&nearly))
         }
-        3 => {
-            let grammar = random_ll1::grammar(random);
-            damaged(&grammar, random)
-        }
-        _ => ("LL(1)", whole(&random_ll1::grammar(random))),
+        2 | 3 => choices::damaged_image(random, &grammar),
+        _ => ("LL(1)", whole(&grammar)),
     }
 }
 
-/// The image of a grammar with any fault or change.
-fn damaged(grammar: &Grammar, random: &mut Random) -> (&'static str, Vec<u8>) {
-    let kind = random.below(damage::KINDS);
-    let damage::Case { kind, image, .. } = damage::of_kind(kind, grammar, random);
-    (kind, image)
-}
-
-/// A grammar one change away from one that is LL(1): a production more or
-/// fewer, a nonterminal more, or another start symbol.
-fn nearly_ll1(random: &mut Random) -> Grammar {
-    let mut grammar = random_ll1::grammar(random);
-    let Grammar { t, n, .. } = grammar;
-    let productions = &mut grammar.productions;
-    match random.below(4) {
-        0 if productions.len() < MAX_PRODUCTIONS => {
-            productions.push(random_grammar::production(random, t, n, 0..=MAX_BODY));
-        }
-        1 if n < MAX_NONTERMINALS => grammar.n += 1,
-        2 => grammar.start = random.between(t + 1, t + n),
-        _ => drop(productions.remove(random.below(productions.len()))),
-    }
-    grammar
-}
-
-/// Mostly the right length, else one next to it or any.
+/// Mostly the right length.
 fn tables_length(random: &mut Random) -> usize {
-    if !random.once_in(6) {
-        return TABLE_BYTES;
+    if random.once_in(6) {
+        choices::tables_length(random)
+    } else {
+        TABLE_BYTES
     }
-    let any = random.below(TABLES_BOUND);
-    random.one_of(&[0, 1, TABLE_BYTES - 1, TABLE_BYTES + 1, any])
-}
-
-/// The length of a whole reply, or any.
-fn reply_length(random: &mut Random) -> usize {
-    let any = random.below(REPLY_BOUND);
-    random.one_of(&[REPLY_BYTES, any])
-}
-
-fn fill(random: &mut Random) -> u8 {
-    let any = random.between(0, u8::MAX);
-    random.one_of(&[0x00, 0xaa, 0xff, any])
 }
 
 impl Case {
-    /// The case as the other program takes it: the letter of the call, the
-    /// lengths of image, tables and reply, the fill byte, the image.
-    pub fn bytes(&self) -> Vec<u8> {
-        let lengths = [self.image.len(), self.tables_length, self.reply_length];
-        let lengths = lengths.map(|length| (length as u32).to_le_bytes());
-        [&[PREPARE][..], &lengths.concat(), &[self.fill], &self.image].concat()
-    }
-
     /// The buffers before the call.
     fn before(&self) -> Answer {
         Answer {
             reply: vec![self.fill; self.reply_length],
-            tables: vec![self.fill; self.tables_length],
+            others: vec![("tables", vec![self.fill; self.tables_length])],
         }
     }
+}
 
-    /// The reply to the case and the buffers after the call.
-    pub fn expected(&self) -> (Reply, Answer) {
+impl calls::Case for Case {
+    const REPLIES: &'static [usize] = &[0, 1, 2, 3, 4];
+
+    /// The letter of the call, the lengths of image, tables and reply, the
+    /// fill byte, the image.
+    fn bytes(&self) -> Vec<u8> {
+        let lengths = calls::numbers([self.image.len(), self.tables_length, self.reply_length]);
+        [&[PREPARE][..], &lengths, &[self.fill], &self.image].concat()
+    }
+
+    fn expected(&self) -> (Reply, Answer) {
         let mut answer = self.before();
-        let reply = prepare(&self.image, &mut answer.tables);
+        let reply = prepare(&self.image, &mut answer.others[0].1);
         reply.write(&mut answer.reply);
         (reply, answer)
     }
 
-    /// The next answer of the other program: the reply, then 0 if the tables
-    /// are still as before, or 1 and the tables.
-    pub fn read_answer(&self, answers: &mut impl Read) -> io::Result<Answer> {
+    /// The reply, then 0 if the tables are still as before, or 1 and the
+    /// tables.
+    fn read_answer(&self, answers: &mut impl Read) -> io::Result<Answer> {
         let mut answer = self.before();
         answers.read_exact(&mut answer.reply)?;
-        let mut written = [0];
-        answers.read_exact(&mut written)?;
-        match written {
-            [0] => (),
-            [1] => answers.read_exact(&mut answer.tables)?,
-            _ => return Err(Error::new(ErrorKind::InvalidData, "neither 0 nor 1")),
-        }
+        calls::read_buffer(answers, &mut answer.others[0].1)?;
         Ok(answer)
+    }
+
+    fn text(&self) -> String {
+        let Case {
+            kind,
+            image,
+            tables_length,
+            reply_length,
+            fill,
+        } = self;
+        let image = show::bytes("image", image);
+        let lengths = format!("tables of {tables_length} bytes, reply of {reply_length} bytes");
+        format!("{kind}\n{image}\n{lengths}, filled with {fill:02x}\n")
     }
 }
 

@@ -1,5 +1,5 @@
-//! Replies: a number and a place. Accepted is number 0; every other number
-//! names the one reason of a refusal.
+//! Replies: a number, a place, an expected set and counts. Accepted is number
+//! 0; every other number names the one reason of a refusal.
 
 use std::ops::Range;
 
@@ -12,65 +12,134 @@ const BAD_RECORD: u32 = 1;
 const USELESS: u32 = 2;
 /// The grammar is not LL(1).
 const CONFLICT: u32 = 3;
-/// The tables have another length.
-const OTHER_LENGTH: u32 = 4;
+/// The tables have another length or, in parse, are not what prepare writes.
+const WRONG_TABLES: u32 = 4;
+/// The area's length is wrong or, in read back, the area is no valid tree.
+const WRONG_AREA: u32 = 5;
+/// The work area is shorter than three times the tree area.
+const SHORT_WORK: u32 = 6;
+/// The token bytes end inside a record, or a kind is not 1..t.
+const BAD_TOKEN: u32 = 7;
+/// The sentence is not in the language.
+const SYNTAX: u32 = 9;
+/// The tree has no room in the area.
+const NO_ROOM: u32 = 10;
+/// The output is shorter than 5 bytes a token.
+const SHORT_OUTPUT: u32 = 11;
 
-/// How many bytes a reply has: number, place, expected set and four counts.
+/// How many bytes a reply has: number, place, expected set and the counts
+/// total, kept, made and given up.
 pub const REPLY_BYTES: usize = 32;
-/// Where number and place stand in a reply.
+/// Where the fields stand in a reply.
 const NUMBER: Range<usize> = 0..4;
 const PLACE: Range<usize> = 4..12;
+const EXPECTED: Range<usize> = 12..16;
+const TOTAL: Range<usize> = 16..20;
+const MADE: Range<usize> = 24..28;
 
-/// A reply.
+/// A reply. Kept and given up, which no call here counts, are 0.
 #[derive(Clone, Copy, Debug, PartialEq)]
 pub struct Reply {
     pub number: u32,
     pub place: u64,
+    /// Bit a for each lookahead a that was expected.
+    pub expected: u32,
+    /// How many nodes the stored tree has.
+    pub total: u32,
+    /// How many of them the call made.
+    pub made: u32,
 }
 
 impl Reply {
-    /// Reply 0.
-    pub const ACCEPTED: Reply = Reply {
-        number: ACCEPTED,
-        place: 0,
-    };
+    /// Reply 0 without counts.
+    pub const ACCEPTED: Reply = Reply::with_place(ACCEPTED, 0);
 
     /// Reply 4.
-    pub const OTHER_LENGTH: Reply = Reply {
-        number: OTHER_LENGTH,
-        place: 0,
-    };
+    pub const WRONG_TABLES: Reply = Reply::with_place(WRONG_TABLES, 0);
+
+    /// Reply 5.
+    pub const WRONG_AREA: Reply = Reply::with_place(WRONG_AREA, 0);
+
+    /// Reply 10.
+    pub const NO_ROOM: Reply = Reply::with_place(NO_ROOM, 0);
+
+    /// The reply whose other fields are 0.
+    const fn with_place(number: u32, place: u64) -> Reply {
+        Reply {
+            number,
+            place,
+            expected: 0,
+            total: 0,
+            made: 0,
+        }
+    }
+
+    /// Reply 0 of parse, which makes every node of the tree.
+    pub fn parsed(total: usize) -> Reply {
+        Reply {
+            made: total as u32,
+            ..Reply::read_back(total)
+        }
+    }
+
+    /// Reply 0 of read back.
+    pub fn read_back(total: usize) -> Reply {
+        Reply {
+            total: total as u32,
+            ..Reply::ACCEPTED
+        }
+    }
 
     /// Reply 1, its place the byte offset of the first bad record.
     pub fn bad_record(offset: usize) -> Reply {
-        Reply {
-            number: BAD_RECORD,
-            place: offset as u64,
-        }
+        Reply::with_place(BAD_RECORD, offset as u64)
     }
 
     /// Reply 2, its place the lowest useless symbol.
     pub fn useless(symbol: u8) -> Reply {
-        Reply {
-            number: USELESS,
-            place: symbol.into(),
-        }
+        Reply::with_place(USELESS, symbol.into())
     }
 
     /// Reply 3, its place the lowest nonterminal in conflict.
     pub fn conflict(symbol: u8) -> Reply {
+        Reply::with_place(CONFLICT, symbol.into())
+    }
+
+    /// Reply 6, its place the length needed.
+    pub fn short_work(needed: usize) -> Reply {
+        Reply::with_place(SHORT_WORK, needed as u64)
+    }
+
+    /// Reply 7, its place the first bad record, from 0.
+    pub fn bad_token(record: usize) -> Reply {
+        Reply::with_place(BAD_TOKEN, record as u64)
+    }
+
+    /// Reply 9, its place the token that was not expected.
+    pub fn syntax(token: usize, expected: u32) -> Reply {
         Reply {
-            number: CONFLICT,
-            place: symbol.into(),
+            expected,
+            ..Reply::with_place(SYNTAX, token as u64)
         }
     }
 
-    /// The fields of the reply, little-endian. Expected set and counts, which
-    /// no reply of prepare names, are 0.
+    /// Reply 11, its place the bytes needed.
+    pub fn short_output(needed: usize) -> Reply {
+        Reply::with_place(SHORT_OUTPUT, needed as u64)
+    }
+
+    pub fn is_accepted(self) -> bool {
+        self.number == ACCEPTED
+    }
+
+    /// The fields of the reply, little-endian.
     pub fn bytes(self) -> [u8; REPLY_BYTES] {
         let mut bytes = [0; REPLY_BYTES];
         bytes[NUMBER].copy_from_slice(&self.number.to_le_bytes());
         bytes[PLACE].copy_from_slice(&self.place.to_le_bytes());
+        bytes[EXPECTED].copy_from_slice(&self.expected.to_le_bytes());
+        bytes[TOTAL].copy_from_slice(&self.total.to_le_bytes());
+        bytes[MADE].copy_from_slice(&self.made.to_le_bytes());
         bytes
     }
 
@@ -92,13 +161,19 @@ mod tests {
     const REPLY: Reply = Reply {
         number: 0x0403_0201,
         place: 0x0c0b_0a09_0807_0605,
+        expected: 0x100f_0e0d,
+        total: 0x1413_1211,
+        made: 0x1c1b_1a19,
     };
 
     #[test]
-    fn number_and_place_come_first_and_are_little_endian() {
+    fn fields_are_little_endian_and_in_order() {
         let bytes = REPLY.bytes();
-        assert_eq!(bytes[..12], [1, 2, 3, 4, 5, 6, 7, 8, 9, 10, 11, 12]);
-        assert_eq!(bytes[12..], [0; 20]);
+        let first: Vec<u8> = (1..=20).collect();
+        assert_eq!(bytes[..20], first);
+        assert_eq!(bytes[20..24], [0; 4]);
+        assert_eq!(bytes[24..28], [25, 26, 27, 28]);
+        assert_eq!(bytes[28..], [0; 4]);
     }
 
     #[test]
@@ -116,5 +191,16 @@ mod tests {
         REPLY.write(&mut buffer);
         assert_eq!(buffer[..REPLY_BYTES], REPLY.bytes());
         assert_eq!(buffer[REPLY_BYTES..], [0xaa; 3]);
+    }
+
+    #[test]
+    fn parse_counts_total_and_made_and_read_back_total_alone() {
+        let parsed = Reply::parsed(9);
+        assert_eq!((parsed.number, parsed.total, parsed.made), (0, 9, 9));
+        let read_back = Reply::read_back(9);
+        assert_eq!(
+            (read_back.number, read_back.total, read_back.made),
+            (0, 9, 0)
+        );
     }
 }

@@ -3,6 +3,7 @@
 use crate::grammar::Grammar;
 use crate::image;
 use crate::reference::IMAGE;
+use crate::tokens::{self, Token};
 
 /// A grammar from its parts.
 pub fn grammar(t: u8, n: u8, start: u8, productions: &[(u8, &[u8])]) -> Grammar {
@@ -26,6 +27,17 @@ pub fn image(t: u8, n: u8, start: u8, productions: &[(u8, &[u8])]) -> Vec<u8> {
 /// The reference grammar.
 pub fn reference() -> Grammar {
     image::read(&IMAGE).expect("the reference image is good")
+}
+
+/// Tokens of these kinds, no two with the same tag.
+pub fn tokens(kinds: &[u8]) -> Vec<Token> {
+    let tagged = kinds.iter().zip(0x0a00_0000..);
+    tagged.map(|(&kind, tag)| Token { kind, tag }).collect()
+}
+
+/// The bytes of such tokens.
+pub fn token_bytes(kinds: &[u8]) -> Vec<u8> {
+    tokens::bytes(&tokens(kinds))
 }
 
 /// Figure 4 of source document 000. Terminals: 1 plus, 2 times, 3 id;

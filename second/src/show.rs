@@ -31,6 +31,17 @@ pub fn tables_text(image: &[u8]) -> String {
     }
 }
 
+/// Named bytes with their number, in one line; many equal ones in short.
+pub fn bytes(name: &str, bytes: &[u8]) -> String {
+    let length = bytes.len();
+    match bytes {
+        [first, rest @ ..] if length > 64 && rest.iter().all(|byte| byte == first) => {
+            format!("{name} of {length} bytes, all {first:02x}")
+        }
+        _ => format!("{name} of {length} bytes: {}", hex(bytes)),
+    }
+}
+
 /// Bytes in hexadecimal, one space apart.
 pub fn hex(bytes: &[u8]) -> String {
     let digits: Vec<String> = bytes.iter().map(|byte| format!("{byte:02x}")).collect();
@@ -91,6 +102,14 @@ mod tests {
     #[test]
     fn bytes_are_shown_by_two_digits_each() {
         assert_eq!(hex(&[0, 0x47, 255]), "00 47 ff");
+    }
+
+    #[test]
+    fn many_equal_bytes_are_shown_in_short() {
+        assert_eq!(bytes("tree", &[0xaa; 65]), "tree of 65 bytes, all aa");
+        assert_eq!(bytes("tree", &[1, 1]), "tree of 2 bytes: 01 01");
+        let unequal = [&[0; 64][..], &[1]].concat();
+        assert!(bytes("tree", &unequal).ends_with(" 00 00 01"));
     }
 
     #[test]

@@ -36,6 +36,13 @@ pub fn lowest_conflict(grammar: &Grammar, sets: &Sets) -> Option<u8> {
     in_conflict.lowest()
 }
 
+/// The tables of an LL(1) grammar without useless symbols.
+pub fn of(grammar: &Grammar) -> Vec<u8> {
+    let mut tables = [0; TABLE_BYTES];
+    write(grammar, &Sets::of(grammar), &mut tables);
+    tables.to_vec()
+}
+
 /// Writes the tables of an LL(1) grammar without useless symbols.
 pub fn write(grammar: &Grammar, sets: &Sets, tables: &mut [u8; TABLE_BYTES]) {
     tables.fill(0);
@@ -61,6 +68,11 @@ fn write_break_points(grammar: &Grammar, sets: &Sets, tables: &mut [u8]) {
             }
         }
     }
+}
+
+/// The predictions of row M, one for each lookahead.
+pub fn predictions(tables: &[u8], m: usize) -> &[u8] {
+    &tables[m * COLUMNS..][..COLUMNS]
 }
 
 /// The byte of the prediction for row M and lookahead a.

@@ -2,6 +2,7 @@
 //! and what the generated cases reach.
 
 use super::*;
+use crate::calls::Case as _;
 
 fn reference_case(tables_length: usize, reply_length: usize, fill: u8) -> Case {
     Case {
@@ -24,7 +25,7 @@ fn reply(number: u8, place: u8) -> Vec<u8> {
 fn assert_refused(number: u8, place: u8, case: &Case) {
     let (_, answer) = case.expected();
     assert_eq!(answer.reply, reply(number, place));
-    assert_eq!(answer.tables, vec![case.fill; case.tables_length]);
+    assert_eq!(answer.others[0].1, vec![case.fill; case.tables_length]);
 }
 
 #[test]
@@ -58,10 +59,10 @@ fn a_case_without_image_and_buffers_is_14_bytes() {
 fn the_first_case_is_the_reference_image_accepted() {
     let (_, answer) = case(1, 0).expected();
     assert_eq!(answer.reply, [0; 32]);
-    let used = answer.tables.iter().filter(|&&byte| byte != 0);
+    let used = answer.others[0].1.iter().filter(|&&byte| byte != 0);
     assert_eq!(used.count(), 9 + 25);
-    assert_eq!(answer.tables.len(), 33_792);
-    assert_eq!(answer.tables[..2], [2, 1]);
+    assert_eq!(answer.others[0].1.len(), 33_792);
+    assert_eq!(answer.others[0].1[..2], [2, 1]);
 }
 
 #[test]
@@ -98,7 +99,7 @@ fn bytes_beyond_the_reply_keep_the_fill_byte() {
 
 #[test]
 fn a_short_reply_leaves_the_tables_whole() {
-    let tables = |case: Case| case.expected().1.tables;
+    let tables = |case: Case| case.expected().1.others.remove(0).1;
     let whole = tables(reference_case(33_792, 32, 0));
     assert_eq!(tables(reference_case(33_792, 0, 0xff)), whole);
 }
@@ -109,7 +110,7 @@ fn an_answer_without_tables_has_them_filled() {
     let mut bytes = &[4, 0, 0, 99][..];
     let answer = case.read_answer(&mut bytes).expect("a whole answer");
     assert_eq!(answer.reply, [4, 0]);
-    assert_eq!(answer.tables, [0x55; 3]);
+    assert_eq!(answer.others[0].1, [0x55; 3]);
     assert_eq!(bytes, [99]);
 }
 
@@ -119,7 +120,7 @@ fn an_answer_with_tables_is_read_to_its_end() {
     let mut bytes = &[0, 1, 7, 8, 9, 99][..];
     let answer = case.read_answer(&mut bytes).expect("a whole answer");
     assert_eq!(answer.reply, [0]);
-    assert_eq!(answer.tables, [7, 8, 9]);
+    assert_eq!(answer.others[0].1, [7, 8, 9]);
     assert_eq!(bytes, [99]);
 }
 

@@ -1,0 +1,78 @@
+//! What the cases of several calls choose alike: grammars, bad images, and the
+//! lengths and the fill byte of lent buffers.
+
+use crate::damage;
+use crate::grammar::{Grammar, MAX_BODY, MAX_NONTERMINALS, MAX_PRODUCTIONS};
+use crate::image;
+use crate::random::Random;
+use crate::random_grammar;
+use crate::random_ll1;
+use crate::reference::IMAGE;
+use crate::reply::REPLY_BYTES;
+use crate::tables::TABLE_BYTES;
+
+/// Tables and replies of a case are shorter than these.
+const TABLES_BOUND: usize = 70_000;
+const REPLY_BOUND: usize = 41;
+
+/// The reference grammar or, mostly, any LL(1) grammar.
+pub fn ll1_grammar(random: &mut Random) -> (&'static str, Grammar) {
+    if random.once_in(6) {
+        let reference = image::read(&IMAGE).expect("the reference image is good");
+        ("reference grammar", reference)
+    } else {
+        ("LL(1)", random_ll1::grammar(random))
+    }
+}
+
+/// An image that most calls refuse: a damaged one, one that is nearly LL(1),
+/// or any.
+pub fn bad_image(random: &mut Random, grammar: &Grammar) -> (&'static str, Vec<u8>) {
+    let whole = |grammar: &Grammar| image::records(grammar).concat();
+    match random.below(3) {
+        0 => damaged_image(random, grammar),
+        1 => ("nearly LL(1)", whole(&nearly_ll1(random, grammar))),
+        _ => ("any grammar", whole(&random_grammar::any(random))),
+    }
+}
+
+/// The image of a grammar with any fault or change.
+pub fn damaged_image(random: &mut Random, grammar: &Grammar) -> (&'static str, Vec<u8>) {
+    let kind = random.below(damage::KINDS);
+    let damage::Case { kind, image, .. } = damage::of_kind(kind, grammar, random);
+    (kind, image)
+}
+
+/// A grammar one change away from one that is LL(1): a production more or
+/// fewer, a nonterminal more, or another start symbol.
+pub fn nearly_ll1(random: &mut Random, grammar: &Grammar) -> Grammar {
+    let mut grammar = grammar.clone();
+    let Grammar { t, n, .. } = grammar;
+    let productions = &mut grammar.productions;
+    match random.below(4) {
+        0 if productions.len() < MAX_PRODUCTIONS => {
+            productions.push(random_grammar::production(random, t, n, 0..=MAX_BODY));
+        }
+        1 if n < MAX_NONTERMINALS => grammar.n += 1,
+        2 => grammar.start = random.between(t + 1, t + n),
+        _ => drop(productions.remove(random.below(productions.len()))),
+    }
+    grammar
+}
+
+/// A length of tables that is mostly wrong: none, next to the right one, or any.
+pub fn tables_length(random: &mut Random) -> usize {
+    let any = random.below(TABLES_BOUND);
+    random.one_of(&[0, 1, TABLE_BYTES - 1, TABLE_BYTES + 1, any])
+}
+
+/// The length of a whole reply, or any.
+pub fn reply_length(random: &mut Random) -> usize {
+    let any = random.below(REPLY_BOUND);
+    random.one_of(&[REPLY_BYTES, any])
+}
+
+pub fn fill(random: &mut Random) -> u8 {
+    let any = random.between(0, u8::MAX);
+    random.one_of(&[0x00, 0xaa, 0xff, any])
+}
