@@ -1,6 +1,6 @@
 -- Writing frames: what a frame's six bytes leave of the others, and the frames with one more.
 use Prim.Native.Nat.{ℕ, zero, suc, _+_, _-_, _*_, _≤_, _<_}
-use mathlib.Core.Path.{_≡_, refl, ap, _∙_}
+use mathlib.Core.Path.{_≡_, refl, sym, ap, _∙_}
 use mathlib.Core.List.{List, [], _∷_}
 use lib.ListN.{length}
 use native.Mathlib.Numerals.{add-one}
@@ -17,11 +17,11 @@ use Rattle.walks.specs.Frames.{frame}
 use Rattle.walks.specs.Going.{Kept}
 use Rattle.walks.specs.Stacked.{placeOf, siblings, frameAt, framesIn, Framed}
 
--- a frame was written behind k others; it counts unless no siblings wait in it, and then there must be no slot
+-- a frame was written behind k others, or no siblings wait in it, and then there must be no slot
 pub data Pushed (S : ℕ) (w : List ℕ) (k s par p j some : ℕ) (w' : List ℕ) : Step → Type 0 where
-  left : Framed w (placeOf S k) s par p j w' → s ≡ 0 → some ≡ 0 → Pushed S w k s par p j some w' (On k)
+  left : w' ≡ w → s ≡ 0 → some ≡ 0 → Pushed S w k s par p j some w' (On k)
   kept : Framed w (placeOf S k) s par p j w' → (some ≡ 0 → ⊥) → Pushed S w k s par p j some w' (On (k + 1))
-  stop : Framed w (placeOf S k) s par p j w' → (s ≡ 0 → ⊥) → some ≡ 0 → Pushed S w k s par p j some w' Stop
+  stop : w' ≡ w → (s ≡ 0 → ⊥) → some ≡ 0 → Pushed S w k s par p j some w' Stop
 
 pub ruleset pushes = (Pushed.left, Pushed.kept, Pushed.stop)
 
@@ -38,6 +38,17 @@ pushed-few {k = k} k' (Pushed.left f z y) e = let q : k ≡ k' = cc in omega ari
 pushed-few {k = k} k' (Pushed.kept f y) e = let q : k + 1 ≡ k' = cc in omega arith
 pushed-few k' (Pushed.stop f z y) e = never (cc)
 
+-- what was written before stays
+pub pushed-before : {S k s par p j some : ℕ} {w w' : List ℕ} {r : Step} → Pushed S w k s par p j some w' r → (i : ℕ) → i < placeOf S k → byteAt w' i ≡ byteAt w i
+pushed-before (Pushed.left f z y) = λ i l. ap (λ (u : List ℕ). byteAt u i) f
+pushed-before (Pushed.kept f y) = f .before
+pushed-before (Pushed.stop f z y) = λ i l. ap (λ (u : List ℕ). byteAt u i) f
+
+pub pushed-long : {S k s par p j some : ℕ} {w w' : List ℕ} {r : Step} → Pushed S w k s par p j some w' r → length w' ≡ length w
+pushed-long (Pushed.left f z y) = ap length f
+pushed-long (Pushed.kept f y) = f .long
+pushed-long (Pushed.stop f z y) = ap length f
+
 module _ {S : ℕ} {b w w1 w2 : List ℕ} {i k s par p j rest kids x q g next : ℕ} (z : next ≡ nextIn b s) (u : Put w i (nodeOf s x q g) w1) {r : Step} (h : Pushed S w1 k next par p j rest w2 r) where
   -- as the code finds it
   pub settled-behind : r ≡ Stop → Settled S b w i k s par p j rest kids w2 Stop
@@ -46,7 +57,7 @@ module _ {S : ℕ} {b w w1 w2 : List ℕ} {i k s par p j rest kids x q g next : 
       go : {r : Step} → Pushed S w1 k next par p j rest w2 r → r ≡ Stop → Settled S b w i k s par p j rest kids w2 Stop
       go (Pushed.left f y o) e = never (cc)
       go (Pushed.kept f o) e = never (cc)
-      go (Pushed.stop f y o) e = Settled.behind (f .long ∙ u .long) (λ v. y (z ∙ v)) o
+      go (Pushed.stop f y o) e = Settled.behind (ap length f ∙ u .long) (λ v. y (z ∙ v)) o
 
   pub settled-on : {first k1 : ℕ} {w' : List ℕ} {r' : Step} → r ≡ On k1 → x ≡ symbolIn b s → q ≡ productionIn b s → g ≡ tagIn b s → first ≡ firstIn b s
       → next < 65536 → first < 65536 → g < tagSpace → Pushed S w2 k1 first s q 0 kids w' r' → Settled S b w i k s par p j rest kids w' r'
@@ -58,27 +69,10 @@ module _ {S : ℕ} {b w w1 w2 : List ℕ} {i k s par p j rest kids x q g next : 
       behind : Pushed S w1 k (nextIn b s) par p j rest w2 (On k1)
       behind = rw (z, e) at h
 
-      long : {r : Step} {w' : List ℕ} → Pushed S w1 k next par p j rest w' r → length w' ≡ length w1
-      long (Pushed.left f y o) = f .long
-      long (Pushed.kept f o) = f .long
-      long (Pushed.stop f y o) = f .long
-
       go : {r' : Step} → Pushed S w2 k1 first s q 0 kids w' r' → Settled S b w i k s par p j rest kids w' r'
-      go (Pushed.left f y o) = Settled.on (rw z at a) (rw f' at c) (rw g' at d) put behind (rw (q', f') at (Pushed.left f y o))
+      go (Pushed.left f y o) = Settled.on (rw z at a) (rw f' at c) (rw g' at d) put behind (Pushed.left f (sym f' ∙ y) o)
       go (Pushed.kept f o) = Settled.on (rw z at a) (rw f' at c) (rw g' at d) put behind (rw (q', f') at (Pushed.kept f o))
-      go (Pushed.stop f y o) = Settled.beneath (f .long ∙ long h ∙ u .long) (λ v. y (f' ∙ v)) o
-
--- ---- what was written before stays
-
-pub pushed-before : {S k s par p j some : ℕ} {w w' : List ℕ} {r : Step} → Pushed S w k s par p j some w' r → (i : ℕ) → i < placeOf S k → byteAt w' i ≡ byteAt w i
-pushed-before (Pushed.left f z y) = f .before
-pushed-before (Pushed.kept f y) = f .before
-pushed-before (Pushed.stop f z y) = f .before
-
-pub pushed-long : {S k s par p j some : ℕ} {w w' : List ℕ} {r : Step} → Pushed S w k s par p j some w' r → length w' ≡ length w
-pushed-long (Pushed.left f z y) = f .long
-pushed-long (Pushed.kept f y) = f .long
-pushed-long (Pushed.stop f z y) = f .long
+      go (Pushed.stop f y o) = Settled.beneath (ap length f ∙ pushed-long h ∙ u .long) (λ v. y (f' ∙ v)) o
 
 module _ (rows : List ℕ) (start S : ℕ) where
   -- frames of the same bytes
@@ -98,7 +92,7 @@ module _ (rows : List ℕ) (start S : ℕ) where
   -- siblings before the frames that wait
   pub pushed-kept : {k k' s par p j some : ℕ} {w w' : List ℕ} → some ≡ length (siblings rows start p j) → Pushed S w k s par p j some w' (On k')
       → Kept (frame s par (siblings rows start p j)) (framesIn rows start w S k) (framesIn rows start w' S k')
-  pushed-kept {k} {w = w} {w' = w'} e (Pushed.left f z y) = rw (frames-same w w' k (λ i l m. f .before i m)) (Kept.left z (nothing _ (omega (arith, e, y))))
+  pushed-kept {k} {w = w} {w' = w'} e (Pushed.left f z y) = rw f (Kept.left z (nothing _ (omega (arith, e, y))))
     where
       nothing : (xs : List ℕ) → length xs ≡ 0 → xs ≡ []
       nothing [] e = refl
@@ -110,5 +104,5 @@ module _ (rows : List ℕ) (start S : ℕ) where
 
   -- no siblings, and no slot
   pub pushed-none : {k k' s par p j some : ℕ} {w w' : List ℕ} → some ≡ 0 → Pushed S w k s par p j some w' (On k') → (s ≡ 0) × (framesIn rows start w' S k' ≡ framesIn rows start w S k)
-  pushed-none {k} {w = w} {w' = w'} e (Pushed.left f z y) = (z, frames-same w w' k (λ i l m. f .before i m))
+  pushed-none {k} e (Pushed.left f z y) = (z, ap (λ (u : List ℕ). framesIn rows start u S k) f)
   pushed-none e (Pushed.kept f y) = absurd (y e)

@@ -17,8 +17,6 @@ ghost use Rattle.walks.specs.Judging.{Kin, Judged};
 ghost use Rattle.walks.specs.Stacked.{frameSize, placeOf, workSize, lengthOf, bodyOf, Framed};
 ghost use Rattle.walks.specs.Pushing.{Pushed, Settled};
 
-const SLOT_SIZE: usize = 16;
-
 pub const FRAME_SIZE: usize = 6;
 
 // The area is the tree of so many nodes, or it is no valid tree.
@@ -62,7 +60,7 @@ fn is_used(area: &[u8], s: usize) -> bool
     requires { ⌜ slotSize * s + slotSize ≤ length (now area) ⌝ }
     ensures { λ r. ⌜ Tells (Used (now (area .entry)) s) r ⌝ }
 {
-    let at = SLOT_SIZE * s;
+    let at = trees::SLOT_SIZE * s;
     if area[at] != 0x4E {
         return false;
     }
@@ -108,7 +106,7 @@ fn judge(area: &[u8], rows: &[u8], t: usize, count: usize, s: usize, par: usize,
     requires { ⌜ slotSize * s + slotSize ≤ length (now area) ⌝ }
     ensures { λ r. ⌜ Judged (now (area .entry)) (now (rows .entry)) t count s par x r × (r ≤ bodySpace) ⌝ }
 {
-    let at = SLOT_SIZE * s;
+    let at = trees::SLOT_SIZE * s;
     if is_used(area, s) {
         if base::wide(area[at + 2]) != x {
             return grammar::BODY_SPACE;
@@ -169,7 +167,7 @@ fn put_frame(w: &mut [u8], at: usize, s: usize, par: usize, p: usize, j: usize)
     w[at + 5] = j as u8;
 }
 
-// Writes the siblings from place j on, `some` of them, behind the k frames that wait. They count unless there are none, and then there must be no slot.
+// Writes the siblings from place j on, `some` of them, behind the k frames that wait. Where there are none there must be no slot.
 fn push(
     w: &mut [u8],
     slots: usize,
@@ -183,13 +181,13 @@ fn push(
     requires { ⌜ (placeOf slots k + frameSize ≤ length (now w)) × (s < 65536) × (par < 65536) × (p < 256) × (j < 256) ⌝ }
     ensures { λ r. ⌜ Pushed slots (now (w .entry)) k s par p j some (now (w .exit)) r ⌝ }
 {
-    put_frame(w, trees::NODE_SIZE * slots + FRAME_SIZE * k, s, par, p, j);
     if some == 0 {
         if s == 0 {
             return Step::On(k);
         }
         return Step::Stop;
     }
+    put_frame(w, trees::NODE_SIZE * slots + FRAME_SIZE * k, s, par, p, j);
     Step::On(k + 1)
 }
 
@@ -210,7 +208,7 @@ fn settle(
     requires { ⌜ (slotSize * s + slotSize ≤ length (now area)) × (workSize slots ≤ length (now w)) × (i < slots) × (k < slots) × (s < 65536) × (par < 65536) × (p < 256) × (j < 256) ⌝ }
     ensures { λ r. ⌜ Settled slots (now (area .entry)) (now (w .entry)) i k s par p j rest kids (now (w .exit)) r ⌝ }
 {
-    let at = SLOT_SIZE * s;
+    let at = trees::SLOT_SIZE * s;
     let q = base::wide(area[at + 3]);
     trees::put_node(w, i, s, base::wide(area[at + 2]), q, four(area, at + 10));
     let Step::On(more) = push(w, slots, k, two(area, at + 8), par, p, j, rest) else {
@@ -336,8 +334,8 @@ fn clear(area: &[u8], marks: &[u8], s: usize) -> bool
     if marks[s] != 0 {
         return true;
     }
-    let at = SLOT_SIZE * s;
-    base::all_zero(&area[at..at + SLOT_SIZE])
+    let at = trees::SLOT_SIZE * s;
+    base::all_zero(&area[at..at + trees::SLOT_SIZE])
 }
 
 // Whether every slot is.
