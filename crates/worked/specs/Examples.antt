@@ -2,7 +2,6 @@
 use Prim.Native.Nat.{ℕ, zero, suc, _+_, _*_, _<_}
 use mathlib.Core.Path.{_≡_, refl, subst}
 use mathlib.Core.List.{List, [], _∷_}
-use lib.ListN.{getD}
 use lib.Dec.{eqb}
 use native.Mathlib.Omega.{arith}
 use Rattle.base.specs.Choose.{choose}
@@ -14,12 +13,11 @@ use Rattle.grammar.specs.Prediction.{Break}
 use Rattle.grammar.specs.Rows.{symbolSpace, grammarIn}
 use Rattle.grammar.specs.Reference.{reference}
 use Rattle.predictions.specs.Hits.{hasb}
-use Rattle.tables.specs.Tables.{tableRows, rowSymbol, Prediction}
+use Rattle.tables.specs.Tables.{rowSymbol, Prediction}
 use Rattle.tables.specs.Cells.{next, stemBits, sharedFrom, pointOf}
 use Rattle.tables.specs.Points.{point}
-use Rattle.tables.specs.Outcome.{cell-prediction}
 use Rattle.worked.specs.Words.{rows, words, is-reference, known}
-use Rattle.worked.specs.Ready.{prepared, cells, listed, steps, step-is}
+use Rattle.worked.specs.Ready.{prepared, cells, listed, cell, cell-is, steps, step-is}
 
 -- ---- what an example says
 
@@ -79,15 +77,6 @@ entry-is M N a l m k = point rows 5 5 6 8 words known prepared cells listed step
 
 as-reference : {M N a v : ℕ} → Break G M N a v → Break reference M N a v
 as-reference {M} {N} {a} {v} h = subst (λ (K : Grammar). Break K M N a v) is-reference h
-
-unfoldable cell : ℕ → ℕ → ℕ
-cell R a = getD cells (R * columns + a) 0
-
-cell-is : (R a : ℕ) → R < tableRows → a < columns → Prediction reference (rowSymbol reference R) a (cell R a)
-unfolding cell grammarIn
-cell-is R a l k =
-    subst (λ (K : Grammar). Prediction K (rowSymbol K R) a (getD cells (R * columns + a) 0)) is-reference
-    (cell-prediction rows 5 5 6 8 words cells (record { known = known; prepared = prepared; listed = listed }) (listed .cell R a l k))
 
 nine : sum 5 (λ R. sum columns (λ a. used (cell R a))) ≡ 9
 unfolding sum used cell cells zeros choose

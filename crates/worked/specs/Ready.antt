@@ -1,6 +1,6 @@
 -- The reference grammar is prepared; its cells and steps, written out, and checked by computation.
 use Prim.Native.Nat.{ℕ, zero, suc, _+_, _*_, _/_, _%_, _≤_, _<_}
-use mathlib.Core.Path.{_≡_, refl, sym, _∙_}
+use mathlib.Core.Path.{_≡_, refl, sym, _∙_, subst}
 use mathlib.Core.Bool.{Bool, true, false}
 use mathlib.Core.Logic.{by-cases}
 use mathlib.Core.List.{List, [], _∷_, _++_}
@@ -11,17 +11,20 @@ use native.Mathlib.Decide.{ℕ-discrete}
 use native.Mathlib.Omega.{arith}
 use Rattle.base.specs.Choose.{choose, choose-of, never}
 use Rattle.base.specs.Blocks.{zeros}
-use Rattle.grammar.specs.Grammar.{WellFormed}
+use Rattle.grammar.specs.Limits.{columns}
+use Rattle.grammar.specs.Grammar.{Grammar, WellFormed}
 use Rattle.grammar.specs.Derivation.{Useless}
 use Rattle.grammar.specs.Prediction.{Prepared}
 use Rattle.grammar.specs.Rows.{leftAt, lengthAt, symbolAt, grammarIn}
-use Rattle.grammar.specs.Reference.{reference-image}
+use Rattle.grammar.specs.Reference.{reference, reference-image}
 use Rattle.sets.specs.Words.{leads, suffix}
 use Rattle.predictions.specs.Hits.{hasb, hasb-has, has-hasb, predictors, Hit, Clash}
 use Rattle.predictions.specs.Idle.{BusyTo, none, busy-none, busy-more, idle-useful}
 use Rattle.predictions.specs.Listing.{Cell, empty, full, Low, Listed}
 use Rattle.predictions.specs.Verdict.{low-ll1}
+use Rattle.tables.specs.Tables.{tableRows, rowSymbol, Prediction}
 use Rattle.tables.specs.Cells.{lead, stepOf}
+use Rattle.tables.specs.Outcome.{cell-prediction}
 use Rattle.worked.specs.Words.{rows, words, is-reference, known}
 
 -- ---- a test of every number below n, computed once
@@ -109,6 +112,9 @@ low = Low.none no-clash
 pub prepared : Prepared (grammarIn rows 5 5 6 8)
 prepared = record { formed = formed; useful = useful; ll1 = low-ll1 rows 5 5 6 8 words known formed useful low refl }
 
+pub reference-prepared : Prepared reference
+reference-prepared = rw is-reference at prepared
+
 -- ---- the cells
 
 unfoldable pub cells : List ℕ
@@ -150,6 +156,16 @@ listed =
           rw (e, z, y) (rw w at (chosen-cell 8 (6 + R) a (omega arith) i));
       conflict = low;
     }
+
+-- the prediction of row R at lookahead a
+unfoldable pub cell : ℕ → ℕ → ℕ
+cell R a = getD cells (R * columns + a) 0
+
+pub cell-is : (R a : ℕ) → R < tableRows → a < columns → Prediction reference (rowSymbol reference R) a (cell R a)
+unfolding cell grammarIn
+cell-is R a l k =
+    subst (λ (K : Grammar). Prediction K (rowSymbol K R) a (getD cells (R * columns + a) 0)) is-reference
+    (cell-prediction rows 5 5 6 8 words cells (record { known = known; prepared = prepared; listed = listed }) (listed .cell R a l k))
 
 -- ---- the steps
 
