@@ -1,6 +1,7 @@
 -- The starred examples of document 01: one table, proved by one statement about the definitions.
 use Prim.Native.Nat.{ℕ, zero, suc, _+_, _*_, _<_}
 use mathlib.Core.Path.{_≡_, refl, subst}
+use mathlib.Core.Option.{some}
 use mathlib.Core.List.{List, [], _∷_}
 use lib.Dec.{eqb}
 use native.Mathlib.Omega.{arith}
@@ -10,14 +11,19 @@ use Rattle.grammar.specs.Limits.{columns}
 use Rattle.grammar.specs.Each.{Each}
 use Rattle.grammar.specs.Grammar.{Grammar}
 use Rattle.grammar.specs.Prediction.{Break}
+use Rattle.grammar.specs.Forest.{Token, kinds, Forest, Derives}
 use Rattle.grammar.specs.Rows.{symbolSpace, grammarIn}
 use Rattle.grammar.specs.Reference.{reference}
 use Rattle.predictions.specs.Hits.{hasb}
 use Rattle.tables.specs.Tables.{rowSymbol, Prediction}
 use Rattle.tables.specs.Cells.{next, stemBits, sharedFrom, pointOf}
 use Rattle.tables.specs.Points.{point}
+use Rattle.plain.specs.Plain.{Verdict, accepted, syntax, noRoom, Parses}
+use Rattle.plain.specs.Machine.{marked}
+use Rattle.kindlesap.specs.Parse.{Stored}
 use Rattle.worked.specs.Words.{rows, words, is-reference, known}
 use Rattle.worked.specs.Ready.{prepared, cells, listed, cell, cell-is, steps, step-is}
+use Rattle.worked.specs.Run.{body, lit, leaf, grown, inner, turn, run, run-right}
 
 -- ---- what an example says
 
@@ -48,10 +54,16 @@ pub data Example : Type 0 where
   counts : (predictions breaks errors : ℕ) → Example
   -- B. [M, N, a] is v
   breakPoint : (M N a v : ℕ) → Example
+  -- C. the tree of a sentence, stored in S slots
+  tree : (S : ℕ) (w : List Token) (f : Forest) → Example
+  -- C to F. how a sentence of these kinds, whatever its tags, ends in S slots
+  parse : (S : ℕ) (ks : List ℕ) (v : Verdict) → Example
 
 abbrev pub Says : Example → Type 0
 Says (counts p b e) = Counted p b e
 Says (breakPoint M N a v) = Break reference M N a v
+Says (tree S w f) = Stored reference S w f
+Says (parse S ks v) = (w : List Token) → kinds w ≡ ks → Parses reference S w v
 
 -- ---- the table
 
@@ -61,7 +73,14 @@ examples =
     breakPoint 9 10 4 10 ∷
     breakPoint 7 6 1 7 ∷
     breakPoint 8 9 3 255 ∷
-    breakPoint 8 10 2 0 ∷ []
+    breakPoint 8 10 2 0 ∷
+    tree 1000 [] (Forest.node 1 6 2 Forest.nil Forest.nil) ∷
+    parse 1000 [] (accepted 1) ∷
+    parse 9 (1 ∷ 2 ∷ 5 ∷ []) (accepted 9) ∷
+    parse 8 (1 ∷ 2 ∷ 5 ∷ []) noRoom ∷
+    parse 9 (1 ∷ 2 ∷ []) (syntax 2 56) ∷
+    parse 8 (1 ∷ 2 ∷ []) noRoom ∷
+    parse 1000 (1 ∷ 2 ∷ 4 ∷ 2 ∷ 4 ∷ []) (syntax 4 32) ∷ []
 
 -- ---- the values, computed
 
@@ -121,12 +140,27 @@ counted = record {
 point-says : (M N a v : ℕ) → M < symbolSpace → N < symbolSpace → a < columns → entry M N a ≡ v → Says (breakPoint M N a v)
 point-says M N a v l m k e = as-reference (rw e at (entry-is M N a l m k))
 
+empty-tree : Says (tree 1000 [] (Forest.node 1 6 2 Forest.nil Forest.nil))
+unfolding reference
+empty-tree = record { derives = Derives.node (record { found = refl }) Derives.nil Derives.nil; yields = refl; fits = omega arith; order = refl }
+
+pub parse-says : (fuel S : ℕ) (ks : List ℕ) (v : Verdict) → run fuel S (6 ∷ []) ks 1 0 ≡ some v → Says (parse S ks v)
+unfolding reference
+parse-says fuel S ks v e w q = run-right fuel S (6 ∷ []) w 1 0 v (rw q e)
+
 -- every example holds
 pub examples-hold : Each Says examples
-unfolding examples
+unfolding examples run turn leaf inner grown body lit marked cell cells zeros choose reference
 examples-hold =
     Each.cons counted
     (Each.cons (point-says 9 10 4 10 (omega arith) (omega arith) (omega arith) at-9-10-4)
     (Each.cons (point-says 7 6 1 7 (omega arith) (omega arith) (omega arith) at-7-6-1)
     (Each.cons (point-says 8 9 3 255 (omega arith) (omega arith) (omega arith) at-8-9-3)
-    (Each.cons (point-says 8 10 2 0 (omega arith) (omega arith) (omega arith) at-8-10-2) Each.nil))))
+    (Each.cons (point-says 8 10 2 0 (omega arith) (omega arith) (omega arith) at-8-10-2)
+    (Each.cons empty-tree
+    (Each.cons (parse-says 20 1000 [] (accepted 1) refl)
+    (Each.cons (parse-says 20 9 (1 ∷ 2 ∷ 5 ∷ []) (accepted 9) refl)
+    (Each.cons (parse-says 20 8 (1 ∷ 2 ∷ 5 ∷ []) noRoom refl)
+    (Each.cons (parse-says 20 9 (1 ∷ 2 ∷ []) (syntax 2 56) refl)
+    (Each.cons (parse-says 20 8 (1 ∷ 2 ∷ []) noRoom refl)
+    (Each.cons (parse-says 20 1000 (1 ∷ 2 ∷ 4 ∷ 2 ∷ 4 ∷ []) (syntax 4 32) refl) Each.nil)))))))))))

@@ -1,6 +1,8 @@
 -- The reference grammar's words and cells, computed.
 pub mod Words
 pub mod Ready
+-- A parse that can be run.
+pub mod Run
 -- The table of examples, and poor programs that the contract rules out.
 pub mod Examples
 pub mod Poor
