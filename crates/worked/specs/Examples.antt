@@ -1,6 +1,6 @@
 -- The starred examples of document 01: one table, proved by one statement about the definitions.
-use Prim.Native.Nat.{ℕ, zero, suc, _+_, _*_, _<_}
-use mathlib.Core.Path.{_≡_, refl, subst}
+use Prim.Native.Nat.{ℕ, zero, suc, _+_, _<_}
+use mathlib.Core.Path.{_≡_, refl}
 use mathlib.Core.Option.{some}
 use mathlib.Core.List.{List, [], _∷_}
 use lib.Dec.{eqb}
@@ -9,10 +9,9 @@ use Rattle.base.specs.Choose.{choose}
 use Rattle.base.specs.Blocks.{zeros}
 use Rattle.grammar.specs.Limits.{columns}
 use Rattle.grammar.specs.Each.{Each}
-use Rattle.grammar.specs.Grammar.{Grammar}
 use Rattle.grammar.specs.Prediction.{Break}
 use Rattle.grammar.specs.Forest.{Token, kinds, Forest, Derives}
-use Rattle.grammar.specs.Rows.{symbolSpace, grammarIn}
+use Rattle.grammar.specs.Rows.{symbolSpace}
 use Rattle.grammar.specs.Reference.{reference}
 use Rattle.predictions.specs.Hits.{hasb}
 use Rattle.tables.specs.Tables.{rowSymbol, Prediction}
@@ -21,8 +20,9 @@ use Rattle.tables.specs.Points.{point}
 use Rattle.plain.specs.Plain.{Verdict, accepted, syntax, noRoom, Parses}
 use Rattle.plain.specs.Machine.{marked}
 use Rattle.kindlesap.specs.Parse.{Stored}
-use Rattle.worked.specs.Words.{rows, words, is-reference, known}
-use Rattle.worked.specs.Ready.{prepared, cells, listed, cell, cell-is, steps, step-is}
+use Rattle.worked.specs.Words.{words}
+use Rattle.worked.specs.Ready.{cells, steps}
+use Rattle.worked.specs.Entries.{cell, cell-is, entry, entry-is}
 use Rattle.worked.specs.Run.{body, lit, leaf, grown, inner, turn, run, run-right}
 
 -- ---- what an example says
@@ -84,19 +84,6 @@ examples =
 
 -- ---- the values, computed
 
-abbrev G : Grammar
-G = grammarIn rows 5 5 6 8
-
-unfoldable entry : ℕ → ℕ → ℕ → ℕ
-entry M N a = pointOf words steps 5 M N a (stemBits steps 5 a symbolSpace N 0)
-
-entry-is : (M N a : ℕ) → M < symbolSpace → N < symbolSpace → a < columns → Break G M N a (entry M N a)
-unfolding entry
-entry-is M N a l m k = point rows 5 5 6 8 words known prepared cells listed steps (λ R b x y. step-is (R * columns + b) (omega arith)) M N a (stemBits steps 5 a symbolSpace N 0) l m k refl
-
-as-reference : {M N a v : ℕ} → Break G M N a v → Break reference M N a v
-as-reference {M} {N} {a} {v} h = subst (λ (K : Grammar). Break K M N a v) is-reference h
-
 nine : sum 5 (λ R. sum columns (λ a. used (cell R a))) ≡ 9
 unfolding sum used cell cells zeros choose
 nine = refl
@@ -131,14 +118,14 @@ counted = record {
   prediction = cell;
   point = λ R Q a. entry (6 + R) (6 + Q) a;
   predicts = λ R a l k. cell-is R a (omega arith) k;
-  breaks-at = λ R Q a l m k. as-reference (entry-is (6 + R) (6 + Q) a (omega arith) (omega arith) k);
+  breaks-at = λ R Q a l m k. entry-is (6 + R) (6 + Q) a (omega arith) (omega arith) k;
   predicted = nine;
   broken = twentyfive;
   wrong = seventeen;
 }
 
 point-says : (M N a v : ℕ) → M < symbolSpace → N < symbolSpace → a < columns → entry M N a ≡ v → Says (breakPoint M N a v)
-point-says M N a v l m k e = as-reference (rw e at (entry-is M N a l m k))
+point-says M N a v l m k e = rw e at (entry-is M N a l m k)
 
 empty-tree : Says (tree 1000 [] (Forest.node 1 6 2 Forest.nil Forest.nil))
 unfolding reference
@@ -158,9 +145,9 @@ examples-hold =
     (Each.cons (point-says 8 9 3 255 (omega arith) (omega arith) (omega arith) at-8-9-3)
     (Each.cons (point-says 8 10 2 0 (omega arith) (omega arith) (omega arith) at-8-10-2)
     (Each.cons empty-tree
-    (Each.cons (parse-says 20 1000 [] (accepted 1) refl)
-    (Each.cons (parse-says 20 9 (1 ∷ 2 ∷ 5 ∷ []) (accepted 9) refl)
-    (Each.cons (parse-says 20 8 (1 ∷ 2 ∷ 5 ∷ []) noRoom refl)
-    (Each.cons (parse-says 20 9 (1 ∷ 2 ∷ []) (syntax 2 56) refl)
-    (Each.cons (parse-says 20 8 (1 ∷ 2 ∷ []) noRoom refl)
-    (Each.cons (parse-says 20 1000 (1 ∷ 2 ∷ 4 ∷ 2 ∷ 4 ∷ []) (syntax 4 32) refl) Each.nil)))))))))))
+    (Each.cons (parse-says 20 _ _ _ refl)
+    (Each.cons (parse-says 20 _ _ _ refl)
+    (Each.cons (parse-says 20 _ _ _ refl)
+    (Each.cons (parse-says 20 _ _ _ refl)
+    (Each.cons (parse-says 20 _ _ _ refl)
+    (Each.cons (parse-says 20 _ _ _ refl) Each.nil)))))))))))

@@ -1,6 +1,6 @@
 -- The reference grammar is prepared; its cells and steps, written out, and checked by computation.
 use Prim.Native.Nat.{ℕ, zero, suc, _+_, _*_, _/_, _%_, _≤_, _<_}
-use mathlib.Core.Path.{_≡_, refl, sym, _∙_, subst}
+use mathlib.Core.Path.{_≡_, refl, sym, _∙_}
 use mathlib.Core.Bool.{Bool, true, false}
 use mathlib.Core.Logic.{by-cases}
 use mathlib.Core.List.{List, [], _∷_, _++_}
@@ -11,8 +11,7 @@ use native.Mathlib.Decide.{ℕ-discrete}
 use native.Mathlib.Omega.{arith}
 use Rattle.base.specs.Choose.{choose, choose-of, never}
 use Rattle.base.specs.Blocks.{zeros}
-use Rattle.grammar.specs.Limits.{columns}
-use Rattle.grammar.specs.Grammar.{Grammar, WellFormed}
+use Rattle.grammar.specs.Grammar.{WellFormed}
 use Rattle.grammar.specs.Derivation.{Useless}
 use Rattle.grammar.specs.Prediction.{Prepared}
 use Rattle.grammar.specs.Rows.{leftAt, lengthAt, symbolAt, grammarIn}
@@ -22,9 +21,7 @@ use Rattle.predictions.specs.Hits.{hasb, hasb-has, has-hasb, predictors, Hit, C
 use Rattle.predictions.specs.Idle.{BusyTo, none, busy-none, busy-more, idle-useful}
 use Rattle.predictions.specs.Listing.{Cell, empty, full, Low, Listed}
 use Rattle.predictions.specs.Verdict.{low-ll1}
-use Rattle.tables.specs.Tables.{tableRows, rowSymbol, Prediction}
 use Rattle.tables.specs.Cells.{lead, stepOf}
-use Rattle.tables.specs.Outcome.{cell-prediction}
 use Rattle.worked.specs.Words.{rows, words, is-reference, known}
 
 -- ---- a test of every number below n, computed once
@@ -156,16 +153,6 @@ listed =
           rw (e, z, y) (rw w at (chosen-cell 8 (6 + R) a (omega arith) i));
       conflict = low;
     }
-
--- the prediction of row R at lookahead a
-unfoldable pub cell : ℕ → ℕ → ℕ
-cell R a = getD cells (R * columns + a) 0
-
-pub cell-is : (R a : ℕ) → R < tableRows → a < columns → Prediction reference (rowSymbol reference R) a (cell R a)
-unfolding cell grammarIn
-cell-is R a l k =
-    subst (λ (K : Grammar). Prediction K (rowSymbol K R) a (getD cells (R * columns + a) 0)) is-reference
-    (cell-prediction rows 5 5 6 8 words cells (record { known = known; prepared = prepared; listed = listed }) (listed .cell R a l k))
 
 -- ---- the steps
 

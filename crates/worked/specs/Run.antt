@@ -23,7 +23,8 @@ use Rattle.tables.specs.Tables as tables
 use Rattle.plain.specs.Plain.{ahead, Verdict, accepted, syntax, noRoom, Expects, prediction, itself, end, Expected, Runs, accepts, matches, expands, crowded, stuck}
 use Rattle.plain.specs.One.{no-rule}
 use Rattle.plain.specs.Machine.{marked, Lit, LitTo, lit-none, lit-more, lit-all}
-use Rattle.worked.specs.Ready.{reference-prepared, cells, cell, cell-is}
+use Rattle.worked.specs.Ready.{reference-prepared, cells}
+use Rattle.worked.specs.Entries.{cell, cell-is}
 
 -- ---- the model
 
