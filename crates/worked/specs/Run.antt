@@ -28,7 +28,7 @@ use Rattle.worked.specs.Entries.{cell, cell-is}
 
 -- ---- the model
 
--- a production's body
+-- the body of a production, and of production p
 abbrev bodyOf : Option Production → List ℕ
 bodyOf none = []
 bodyOf (some P) = P .body
@@ -63,12 +63,14 @@ grown go S γ xs ks c i = choose (leb (c + length γ) S) (λ _. go (γ ++ xs) ks
 unfoldable pub inner : Course → ℕ → ℕ → Course
 inner go S R xs ks c i = choose (eqb (cell R (next ks)) 0) (λ _. some (syntax i (lit R columns))) (λ _. grown go S (body (cell R (next ks))) xs ks c i)
 
+-- one step; the terminals are 1..5, the nonterminals 6..10. What is out of range has no answer
 unfoldable pub turn : Course → ℕ → Course
 turn go S [] [] c i = some (accepted c)
 turn go S [] (k ∷ ks) c i = choose (eqb k 0) (λ _. none) (λ _. some (syntax i 1))
 turn go S (M ∷ xs) ks c i = choose (eqb M 0) (λ _. none)
     (λ _. choose (leb M 5) (λ _. leaf go M xs ks c i) (λ _. choose (leb M 10) (λ _. choose (ltb (next ks) columns) (λ _. inner go S (M - 6) xs ks c i) (λ _. none)) (λ _. none)))
 
+-- so many steps, in S slots
 unfoldable pub run : ℕ → ℕ → Course
 run zero S xs ks c i = none
 run (suc fuel) S xs ks c i = turn (run fuel S) S xs ks c i
