@@ -123,11 +123,11 @@ module _ {G : Grammar} (g : Prepared G) where
       same-slots s (h .order ∙ ap (upFrom 1) (same-size s) ∙ sym (k .order))
 
   -- and then the plain parse accepts it
-  stored-parses : {S : ℕ} {w : List Token} {f : Forest} → 1 ≤ S → Stored G S w f → Parses G S w (accepted (size f))
+  pub stored-parses : {S : ℕ} {w : List Token} {f : Forest} → 1 ≤ S → Stored G S w f → Parses G S w (accepted (size f))
   stored-parses {S} {w} {f} l h =
       accepted-exactly S w (size f) l .1 (record { tree = record { tree = f; derives = h .derives; yields = h .yields }; nodes = refl; fits = h .fits })
 
-  verdict-one : {S S' : ℕ} {t : ℕ} {b tree : List ℕ} {w w' : List Token} {u v : Verdict} → Sized S tree → Sized S' tree → Sentence t b w → Sentence t b w' → Parses G S w u → Parses G S' w' v → u ≡ v
+  pub verdict-one : {S S' : ℕ} {t : ℕ} {b tree : List ℕ} {w w' : List Token} {u v : Verdict} → Sized S tree → Sized S' tree → Sentence t b w → Sentence t b w' → Parses G S w u → Parses G S' w' v → u ≡ v
   verdict-one {v = v} z z' s s' h k = runs-one g h (rw (← sized-one z z', ← sentence-one s s') at k)
 
   fits-one : {tables tokens tree : List ℕ} {room : ℕ} → One (Fits tables tokens room tree G)

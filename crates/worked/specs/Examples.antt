@@ -1,25 +1,29 @@
 -- The starred examples of document 01: one table, proved by one statement about the definitions.
-use Prim.Native.Nat.{ℕ, zero, suc, _+_, _*_, _<_}
-use mathlib.Core.Path.{_≡_, refl, subst}
+use Prim.Native.Nat.{ℕ, zero, suc, _+_, _<_}
+use mathlib.Core.Path.{_≡_, refl}
+use mathlib.Core.Option.{some}
 use mathlib.Core.List.{List, [], _∷_}
-use lib.ListN.{getD}
 use lib.Dec.{eqb}
 use native.Mathlib.Omega.{arith}
 use Rattle.base.specs.Choose.{choose}
 use Rattle.base.specs.Blocks.{zeros}
 use Rattle.grammar.specs.Limits.{columns}
 use Rattle.grammar.specs.Each.{Each}
-use Rattle.grammar.specs.Grammar.{Grammar}
 use Rattle.grammar.specs.Prediction.{Break}
-use Rattle.grammar.specs.Rows.{symbolSpace, grammarIn}
+use Rattle.grammar.specs.Forest.{Token, kinds, Forest, Derives}
+use Rattle.grammar.specs.Rows.{symbolSpace}
 use Rattle.grammar.specs.Reference.{reference}
 use Rattle.predictions.specs.Hits.{hasb}
-use Rattle.tables.specs.Tables.{tableRows, rowSymbol, Prediction}
+use Rattle.tables.specs.Tables.{rowSymbol, Prediction}
 use Rattle.tables.specs.Cells.{next, stemBits, sharedFrom, pointOf}
 use Rattle.tables.specs.Points.{point}
-use Rattle.tables.specs.Outcome.{cell-prediction}
-use Rattle.worked.specs.Words.{rows, words, is-reference, known}
-use Rattle.worked.specs.Ready.{prepared, cells, listed, steps, step-is}
+use Rattle.plain.specs.Plain.{Verdict, accepted, syntax, noRoom, Parses}
+use Rattle.plain.specs.Machine.{marked}
+use Rattle.kindlesap.specs.Parse.{Stored}
+use Rattle.worked.specs.Words.{words}
+use Rattle.worked.specs.Ready.{cells, steps}
+use Rattle.worked.specs.Entries.{cell, cell-is, entry, entry-is}
+use Rattle.worked.specs.Run.{body, lit, leaf, grown, inner, turn, run, run-right}
 
 -- ---- what an example says
 
@@ -50,10 +54,16 @@ pub data Example : Type 0 where
   counts : (predictions breaks errors : ℕ) → Example
   -- B. [M, N, a] is v
   breakPoint : (M N a v : ℕ) → Example
+  -- C. the tree of a sentence, stored in S slots
+  tree : (S : ℕ) (w : List Token) (f : Forest) → Example
+  -- C to F. how a sentence of these kinds, whatever its tags, ends in S slots
+  parse : (S : ℕ) (ks : List ℕ) (v : Verdict) → Example
 
 abbrev pub Says : Example → Type 0
 Says (counts p b e) = Counted p b e
 Says (breakPoint M N a v) = Break reference M N a v
+Says (tree S w f) = Stored reference S w f
+Says (parse S ks v) = (w : List Token) → kinds w ≡ ks → Parses reference S w v
 
 -- ---- the table
 
@@ -63,31 +73,16 @@ examples =
     breakPoint 9 10 4 10 ∷
     breakPoint 7 6 1 7 ∷
     breakPoint 8 9 3 255 ∷
-    breakPoint 8 10 2 0 ∷ []
+    breakPoint 8 10 2 0 ∷
+    tree 1000 [] (Forest.node 1 6 2 Forest.nil Forest.nil) ∷
+    parse 1000 [] (accepted 1) ∷
+    parse 9 (1 ∷ 2 ∷ 5 ∷ []) (accepted 9) ∷
+    parse 8 (1 ∷ 2 ∷ 5 ∷ []) noRoom ∷
+    parse 9 (1 ∷ 2 ∷ []) (syntax 2 56) ∷
+    parse 8 (1 ∷ 2 ∷ []) noRoom ∷
+    parse 1000 (1 ∷ 2 ∷ 4 ∷ 2 ∷ 4 ∷ []) (syntax 4 32) ∷ []
 
 -- ---- the values, computed
-
-abbrev G : Grammar
-G = grammarIn rows 5 5 6 8
-
-unfoldable entry : ℕ → ℕ → ℕ → ℕ
-entry M N a = pointOf words steps 5 M N a (stemBits steps 5 a symbolSpace N 0)
-
-entry-is : (M N a : ℕ) → M < symbolSpace → N < symbolSpace → a < columns → Break G M N a (entry M N a)
-unfolding entry
-entry-is M N a l m k = point rows 5 5 6 8 words known prepared cells listed steps (λ R b x y. step-is (R * columns + b) (omega arith)) M N a (stemBits steps 5 a symbolSpace N 0) l m k refl
-
-as-reference : {M N a v : ℕ} → Break G M N a v → Break reference M N a v
-as-reference {M} {N} {a} {v} h = subst (λ (K : Grammar). Break K M N a v) is-reference h
-
-unfoldable cell : ℕ → ℕ → ℕ
-cell R a = getD cells (R * columns + a) 0
-
-cell-is : (R a : ℕ) → R < tableRows → a < columns → Prediction reference (rowSymbol reference R) a (cell R a)
-unfolding cell grammarIn
-cell-is R a l k =
-    subst (λ (K : Grammar). Prediction K (rowSymbol K R) a (getD cells (R * columns + a) 0)) is-reference
-    (cell-prediction rows 5 5 6 8 words cells (record { known = known; prepared = prepared; listed = listed }) (listed .cell R a l k))
 
 nine : sum 5 (λ R. sum columns (λ a. used (cell R a))) ≡ 9
 unfolding sum used cell cells zeros choose
@@ -123,21 +118,36 @@ counted = record {
   prediction = cell;
   point = λ R Q a. entry (6 + R) (6 + Q) a;
   predicts = λ R a l k. cell-is R a (omega arith) k;
-  breaks-at = λ R Q a l m k. as-reference (entry-is (6 + R) (6 + Q) a (omega arith) (omega arith) k);
+  breaks-at = λ R Q a l m k. entry-is (6 + R) (6 + Q) a (omega arith) (omega arith) k;
   predicted = nine;
   broken = twentyfive;
   wrong = seventeen;
 }
 
 point-says : (M N a v : ℕ) → M < symbolSpace → N < symbolSpace → a < columns → entry M N a ≡ v → Says (breakPoint M N a v)
-point-says M N a v l m k e = as-reference (rw e at (entry-is M N a l m k))
+point-says M N a v l m k e = rw e at (entry-is M N a l m k)
+
+empty-tree : Says (tree 1000 [] (Forest.node 1 6 2 Forest.nil Forest.nil))
+unfolding reference
+empty-tree = record { derives = Derives.node (record { found = refl }) Derives.nil Derives.nil; yields = refl; fits = omega arith; order = refl }
+
+pub parse-says : (fuel S : ℕ) (ks : List ℕ) (v : Verdict) → run fuel S (6 ∷ []) ks 1 0 ≡ some v → Says (parse S ks v)
+unfolding reference
+parse-says fuel S ks v e w q = run-right fuel S (6 ∷ []) w 1 0 v (rw q e)
 
 -- every example holds
 pub examples-hold : Each Says examples
-unfolding examples
+unfolding examples run turn leaf inner grown body lit marked cell cells zeros choose reference
 examples-hold =
     Each.cons counted
     (Each.cons (point-says 9 10 4 10 (omega arith) (omega arith) (omega arith) at-9-10-4)
     (Each.cons (point-says 7 6 1 7 (omega arith) (omega arith) (omega arith) at-7-6-1)
     (Each.cons (point-says 8 9 3 255 (omega arith) (omega arith) (omega arith) at-8-9-3)
-    (Each.cons (point-says 8 10 2 0 (omega arith) (omega arith) (omega arith) at-8-10-2) Each.nil))))
+    (Each.cons (point-says 8 10 2 0 (omega arith) (omega arith) (omega arith) at-8-10-2)
+    (Each.cons empty-tree
+    (Each.cons (parse-says 20 _ _ _ refl)
+    (Each.cons (parse-says 20 _ _ _ refl)
+    (Each.cons (parse-says 20 _ _ _ refl)
+    (Each.cons (parse-says 20 _ _ _ refl)
+    (Each.cons (parse-says 20 _ _ _ refl)
+    (Each.cons (parse-says 20 _ _ _ refl) Each.nil)))))))))))

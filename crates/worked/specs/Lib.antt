@@ -1,6 +1,9 @@
 -- The reference grammar's words and cells, computed.
 pub mod Words
 pub mod Ready
+pub mod Entries
+-- A parse that can be run.
+pub mod Run
 -- The table of examples, and poor programs that the contract rules out.
 pub mod Examples
 pub mod Poor

@@ -15,7 +15,7 @@ use Rattle.grammar.specs.Grammar.{WellFormed}
 use Rattle.grammar.specs.Derivation.{Useless}
 use Rattle.grammar.specs.Prediction.{Prepared}
 use Rattle.grammar.specs.Rows.{leftAt, lengthAt, symbolAt, grammarIn}
-use Rattle.grammar.specs.Reference.{reference-image}
+use Rattle.grammar.specs.Reference.{reference, reference-image}
 use Rattle.sets.specs.Words.{leads, suffix}
 use Rattle.predictions.specs.Hits.{hasb, hasb-has, has-hasb, predictors, Hit, Clash}
 use Rattle.predictions.specs.Idle.{BusyTo, none, busy-none, busy-more, idle-useful}
@@ -108,6 +108,9 @@ low = Low.none no-clash
 
 pub prepared : Prepared (grammarIn rows 5 5 6 8)
 prepared = record { formed = formed; useful = useful; ll1 = low-ll1 rows 5 5 6 8 words known formed useful low refl }
+
+pub reference-prepared : Prepared reference
+reference-prepared = rw is-reference at prepared
 
 -- ---- the cells
 
