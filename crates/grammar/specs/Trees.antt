@@ -1,11 +1,11 @@
 -- Derivation trees and rewriting say the same: a tree of X with yield w exists exactly when X ⇒* w.
-use mathlib.Core.Path.{_≡_, refl, ap, _∙_}
+use mathlib.Core.Path.{_≡_, refl, sym, ap, _∙_}
 use mathlib.Core.Logic.{_↔_}
-use Prim.Native.Nat.{ℕ, _+_}
+use Prim.Native.Nat.{ℕ, suc, _+_}
 use mathlib.Core.List.{List, [], _∷_, _++_, append-assoc, append-nil}
 use native.Mathlib.Omega.{arith}
 use Rattle.grammar.specs.Each.{Each}
-use Rattle.grammar.specs.Grammar.{Grammar, Terminal}
+use Rattle.grammar.specs.Grammar.{Grammar, Rule, Terminal}
 use Rattle.grammar.specs.Derivation.{Step, at, Steps, stop, then}
 use Rattle.grammar.specs.Forest.{Token, kinds, Forest, size, yield, Derives, Tree}
 
@@ -80,6 +80,17 @@ module _ {G : Grammar} where
       (then (at [] xs r)
       (trans (steps-in [] xs (steps-of e))
       (simp append-nil at (steps-in (kinds (yield k)) [] (steps-of d)))))
+
+  -- a production's node over the trees of its body, before others
+  pub node-over : {p M : ℕ} (γ : List ℕ) {xs : List ℕ} {f : Forest} → Rule G p M γ → Derives G (γ ++ xs) f
+      → (g : Forest) × Derives G (M ∷ xs) g × (yield g ≡ yield f) × (size g ≡ suc (size f))
+  node-over {p} {M} γ r d =
+      let q = parts γ d in (
+        Forest.node 0 M p (q .front) (q .back),
+        Derives.node r (q .left) (q .right),
+        sym (yield-join (q .front) (q .back)) ∙ ap yield (sym (q .is)),
+        ap suc (sym (size-join (q .front) (q .back)) ∙ ap size (sym (q .is))),
+      )
 
   -- ---- and what terminals a list of symbols rewrites to, a forest yields
 

@@ -33,19 +33,16 @@ ghost use Rattle.kindlesap.specs.ReadBack.{Returns, ReadOutcome, ReadCal
 ghost use Rattle.kindlesap.specs.Storing.{Slotted};
 ghost use Rattle.kindlesap.specs.Returning.{Giving, Treed};
 
-const HEADER_SIZE: usize = 16;
-
-const MAX_SLOTS: usize = 1000;
-
 const WORK_AREAS: usize = 3;
 
 // Where an area's header has the number of tokens.
 const TOKENS_PLACE: usize = 6;
 
 // What the walk of an area needs: a list of nodes, frames, and a mark for each slot.
-const WALK_SIZE: usize = trees::NODE_SIZE * MAX_SLOTS + walks::FRAME_SIZE * (MAX_SLOTS + 1);
+const WALK_SIZE: usize = trees::NODE_SIZE * trees::MAX_SLOTS
+    + walks::FRAME_SIZE * (trees::MAX_SLOTS + 1);
 
-const MARKS_SIZE: usize = MAX_SLOTS + 1;
+const MARKS_SIZE: usize = trees::MAX_SLOTS + 1;
 
 // What replies 2 and 3 say of a grammar.
 pub enum Judgement {
@@ -138,14 +135,14 @@ pub fn prepare(image: &[u8], tables: &mut [u8]) -> Reply
 fn slots_of(length: usize) -> usize
     ensures { λ r. ⌜ Slotted length r ⌝ }
 {
-    if length < HEADER_SIZE + trees::SLOT_SIZE {
+    if length < trees::HEADER_SIZE + trees::SLOT_SIZE {
         return 0;
     }
-    if (length - HEADER_SIZE) % trees::SLOT_SIZE != 0 {
+    if (length - trees::HEADER_SIZE) % trees::SLOT_SIZE != 0 {
         return 0;
     }
-    let slots = (length - HEADER_SIZE) / trees::SLOT_SIZE;
-    if MAX_SLOTS < slots {
+    let slots = (length - trees::HEADER_SIZE) / trees::SLOT_SIZE;
+    if trees::MAX_SLOTS < slots {
         return 0;
     }
     slots

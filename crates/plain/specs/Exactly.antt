@@ -11,7 +11,7 @@ use Rattle.grammar.specs.Grammar.{Grammar}
 use Rattle.grammar.specs.Derivation.{stop}
 use Rattle.grammar.specs.Prediction.{Prepared}
 use Rattle.grammar.specs.Forest.{Token, Forest, size, yield, Derives, Tree}
-use Rattle.grammar.specs.Trees.{yield-join, size-join, parts}
+use Rattle.grammar.specs.Trees.{node-over}
 use Rattle.plain.specs.Plain.{Verdict, accepted, noRoom, Runs, accepts, matches, expands, crowded, stuck, Parses}
 use Rattle.plain.specs.Traced.{Traced, Same, through, full, traced, same}
 
@@ -37,17 +37,10 @@ module _ {G : Grammar} {S : ℕ} where
         count = omega (arith, b .count);
         fits = b .fits;
       }
-  sound n (expands {M = M} {p = p} {γ = γ} {xs = xs} x r m h) l e =
+  sound n (expands {γ = γ} {xs = xs} x r m h) l e =
       let b = sound n h m e in
-      let q = parts γ (b .derives) in
-      let s = q .is in
-      record {
-        forest = Forest.node 0 M p (q .front) (q .back);
-        derives = Derives.node r (q .left) (q .right);
-        yields = sym (yield-join (q .front) (q .back)) ∙ ap yield (sym s) ∙ b .yields;
-        count = omega (arith, b .count, length-append γ xs, ap size s, size-join (q .front) (q .back));
-        fits = b .fits;
-      }
+      let q = node-over γ r (b .derives) in
+      record { forest = q .0; derives = q .1; yields = q .2 ∙ b .yields; count = omega (arith, b .count, length-append γ xs, q .3); fits = b .fits }
   sound n (crowded x r m) l e = never (cc)
   sound n (stuck m d) l e = never (cc)
 

@@ -63,7 +63,7 @@ pub marked-not : (e c v : ℕ) → v ≡ 0 → e ≡ marked e c v
 unfolding marked choose
 marked-not e c v q = rw (eq-eqb v 0 q)
 
-pub marked-in : (e c v : ℕ) → c < columns → (v ≡ 0 → ⊥) → bitOr e (1 * 2 ^ c % 2 ^ 32) ≡ marked e c v
+pub marked-in : (e c v : ℕ) → c < columns → (v ≡ 0 → ⊥) → bitOr e (1 * 2 ^ c % 2 ^ columns) ≡ marked e c v
 unfolding marked choose
 marked-in e c v l n = rw (ne-eqb v 0 n, shift-one columns c l)
 

@@ -10,6 +10,7 @@ use native.Mathlib.Omega.{arith}
 use Rattle.base.specs.Bytes.{byteAt, get32, Bytes, leBytes}
 use Rattle.base.specs.Choose.{never}
 use Rattle.grammar.specs.Each.{Each}
+use Rattle.trees.specs.Area.{tagSpace}
 use Rattle.grammar.specs.Grammar.{TerminalOf}
 use Rattle.grammar.specs.Forest.{Token, kinds}
 
@@ -18,7 +19,7 @@ tokenSize = 5
 
 -- "a 32-bit tag"
 abbrev pub Tagged : Token → Type 0
-Tagged k = k .tag < 2 ^ 32
+Tagged k = k .tag < tagSpace
 
 abbrev pub tokenBytes : List Token → List ℕ
 tokenBytes [] = []
@@ -112,7 +113,7 @@ unfolding tokenAt
 each-tag b zero i f = Each.nil
 each-tag b (suc k) i f =
     let n : ℕ = tokenSize * i + 1 in
-    let l : get32 b n < 2 ^ 32 = omega (arith, f n, f (n + 1), f (n + 2), f (n + 3)) in
+    let l : get32 b n < tagSpace = omega (arith, f n, f (n + 1), f (n + 2), f (n + 3)) in
     Each.cons l (each-tag b k (i + 1) f)
 
 pub length-tokens : (b : List ℕ) (k i : ℕ) → length (tokensFrom b k i) ≡ k
@@ -161,14 +162,14 @@ same-byte a b l m e = omega arith
 shrink : (a k : ℕ) → a < 256 * k → a / 256 < k
 shrink a k l = omega arith
 
-same-tag : (g g' : ℕ) (r r' : List ℕ) → g < 2 ^ 32 → g' < 2 ^ 32 → leBytes 4 g ++ r ≡ leBytes 4 g' ++ r' → (g ≡ g') × (r ≡ r')
+same-tag : (g g' : ℕ) (r r' : List ℕ) → g < tagSpace → g' < tagSpace → leBytes 4 g ++ r ≡ leBytes 4 g' ++ r' → (g ≡ g') × (r ≡ r')
 unfolding leBytes
 same-tag g g' r r' l l' e =
     let x₁ : g % 256 ≡ g' % 256 = cc in
     let x₂ : g / 256 % 256 ≡ g' / 256 % 256 = cc in
     let x₃ : g / 256 / 256 % 256 ≡ g' / 256 / 256 % 256 = cc in
     let x₄ : g / 256 / 256 / 256 % 256 ≡ g' / 256 / 256 / 256 % 256 = cc in
-    let small : (v : ℕ) → v < 2 ^ 32 → v / 256 / 256 / 256 < 256 = λ v m. shrink (v / 256 / 256) 256 (shrink (v / 256) 65536 (shrink v 16777216 m)) in
+    let small : (v : ℕ) → v < tagSpace → v / 256 / 256 / 256 < 256 = λ v m. shrink (v / 256 / 256) 256 (shrink (v / 256) 65536 (shrink v 16777216 m)) in
     let w₃ : g / 256 / 256 / 256 ≡ g' / 256 / 256 / 256 = same-byte (g / 256 / 256 / 256) (g' / 256 / 256 / 256) (small g l) (small g' l') x₄ in
     (same-number g g' x₁ (same-number (g / 256) (g' / 256) x₂ (same-number (g / 256 / 256) (g' / 256 / 256) x₃ w₃)), cc)
 

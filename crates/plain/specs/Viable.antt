@@ -15,9 +15,9 @@ use Rattle.grammar.specs.Derivation.{at, Steps, stop, then}
 use Rattle.grammar.specs.Prediction.{Predicts, Prepared}
 use Rattle.grammar.specs.Single.{ll1-one}
 use Rattle.grammar.specs.Forest.{Token, kinds, Forest, yield, Derives, Tree}
-use Rattle.grammar.specs.Trees.{join, yield-join, derives-join, parts, trans, steps-in, forest-of}
+use Rattle.grammar.specs.Trees.{join, yield-join, derives-join, node-over, trans, steps-in, forest-of}
 use Rattle.sets.specs.Decidable.{useful-productive}
-use Rattle.plain.specs.Plain.{front, ahead, Expects, prediction, itself, end, Verdict, syntax, Runs, accepts, matches, expands, crowded, stuck, Parses}
+use Rattle.plain.specs.Plain.{ahead, Expects, prediction, itself, end, Verdict, syntax, Runs, accepts, matches, expands, crowded, stuck, Parses}
 use Rattle.plain.specs.One.{no-rule}
 use Rattle.plain.specs.Traced.{Traced, front-append, traced}
 
@@ -141,18 +141,18 @@ module _ {G : Grammar} (g : Prepared G) where
         more = b .more;
         yields = ap (λ (u : List Token). k ∷ u) (b .yields);
       }
-  begun j e (expands {M = M} {p = p} {γ = γ} x r l h) q (Each.cons s t) =
+  begun j e (expands {γ = γ} x r l h) q (Each.cons s t) =
       let b = begun j e h q (each-join (rule-allowed (g .formed) r .symbols) t) in
-      let o = parts γ (b .derives) in
+      let o = node-over γ r (b .derives) in
       record {
         beginning = b .beginning;
         rest = b .rest;
         is = b .is;
         tokens = b .tokens;
-        forest = Forest.node 0 M p (o .front) (o .back);
-        derives = Derives.node r (o .left) (o .right);
+        forest = o .0;
+        derives = o .1;
         more = b .more;
-        yields = sym (yield-join (o .front) (o .back)) ∙ ap yield (sym (o .is)) ∙ b .yields;
+        yields = o .2 ∙ b .yields;
       }
 
   -- "With reply 9, its place equals the number of tokens in the longest beginning of the sentence that also begins some sentence of the language"

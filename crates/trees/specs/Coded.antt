@@ -3,16 +3,12 @@ use Prim.Native.Nat.{ℕ, zero, suc, _+_, _-_, _*_, _≤_, _<_}
 use mathlib.Core.Path.{_≡_}
 use mathlib.Core.List.{List, [], _∷_, _++_}
 use lib.ListN.{length, getD}
-use Rattle.base.specs.Bytes.{byteAt, get16, leBytes}
+use Rattle.base.specs.Bytes.{byteAt, get16, get32, leBytes}
 use Rattle.grammar.specs.Rows.{lengthAt}
 use Rattle.trees.specs.Nodes.{Node}
 
 abbrev pub nodeSize : ℕ
 nodeSize = 8
-
--- the four-byte number at a place
-abbrev pub get32 : List ℕ → ℕ → ℕ
-get32 w at = byteAt w at + 256 * (byteAt w (at + 1) + 256 * (byteAt w (at + 2) + 256 * byteAt w (at + 3)))
 
 unfoldable pub nodeBytes : Node → List ℕ
 nodeBytes e = e .symbol ∷ e .production ∷ (leBytes 2 (e .slot) ++ leBytes 4 (e .tag))

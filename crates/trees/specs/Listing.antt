@@ -4,11 +4,11 @@ use mathlib.Core.Path.{_≡_, refl, ap, _∙_}
 use mathlib.Core.List.{List, [], _∷_, _++_}
 use lib.ListN.{length}
 use native.Mathlib.Omega.{arith}
-use Rattle.base.specs.Bytes.{byteAt, get16, leBytes, byte-out, get16-out}
+use Rattle.base.specs.Bytes.{byteAt, get16, get32, leBytes, byte-out, get16-out}
 use Rattle.base.specs.Filled.{Filled}
 use Rattle.trees.specs.Area.{tagSpace}
 use Rattle.trees.specs.Nodes.{Node}
-use Rattle.trees.specs.Coded.{nodeSize, get32, nodeBytes, nodeAt, nodesFrom}
+use Rattle.trees.specs.Coded.{nodeSize, nodeBytes, nodeAt, nodesFrom}
 
 -- a node of these four
 abbrev pub nodeOf : ℕ → ℕ → ℕ → ℕ → Node

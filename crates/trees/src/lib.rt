@@ -3,9 +3,9 @@ ghost use mathlib.Core.Path.{_≡_};
 ghost use Prim.Native.Nat.{_+_, _-_, _*_, _<_, _≤_};
 ghost use lib.ListN.{length};
 ghost use Rattle.trees.specs.Area.{slotSize, maxSlots, areaSize, tagSpace, slotBytes, headerBytes, Area};
-ghost use Rattle.base.specs.Bytes.{byteAt, get16, put16};
+ghost use Rattle.base.specs.Bytes.{byteAt, get16, put16, get32};
 ghost use Rattle.base.specs.Filled.{Filled};
-ghost use Rattle.trees.specs.Coded.{nodeSize, get32, nodeBytes, nodeAt, nodesFrom, arityIn};
+ghost use Rattle.trees.specs.Coded.{nodeSize, nodeBytes, nodeAt, nodesFrom, arityIn};
 ghost use Rattle.trees.specs.Nodes.{build, Fed};
 ghost use Rattle.trees.specs.Listing.{nodeOf, Fits, Put};
 ghost use Rattle.trees.specs.Slots.{Slotted, parentPlace, nextPlace};
@@ -16,6 +16,19 @@ ghost use Rattle.trees.specs.Spread.{Spread};
 pub const NODE_SIZE: usize = 8;
 
 pub const SLOT_SIZE: usize = 16;
+
+pub const HEADER_SIZE: usize = 16;
+
+pub const MAX_SLOTS: usize = 1000;
+
+// The marks of a header and of a used slot, two bytes each.
+pub const TREE_MARK: u8 = 0x54;
+
+pub const TREE_MARK_END: u8 = 0x52;
+
+pub const NODE_MARK: u8 = 0x4E;
+
+pub const NODE_MARK_END: u8 = 0x44;
 
 // The places of a slot's parent and next sibling.
 const PARENT: usize = 4;
@@ -139,8 +152,8 @@ fn slot_bytes(symbol: usize, production: usize, first: usize, next: usize, tag: 
     ensures { λ r. ⌜ r ≡ slotBytes symbol production 0 first next tag ⌝ }
 {
     [
-        0x4E,
-        0x44,
+        NODE_MARK,
+        NODE_MARK_END,
         symbol as u8,
         production as u8,
         0,
@@ -238,8 +251,8 @@ fn header_bytes(root: usize, used: usize, tokens: usize) -> [u8; 16]
     ensures { λ r. ⌜ r ≡ headerBytes root used tokens ⌝ }
 {
     [
-        0x54,
-        0x52,
+        TREE_MARK,
+        TREE_MARK_END,
         (root % 256) as u8,
         (root / 256 % 256) as u8,
         (used % 256) as u8,

@@ -4,12 +4,11 @@ use mathlib.Core.Path.{_≡_, refl, sym, ap, _∙_}
 use mathlib.Core.List.{List}
 use lib.ListN.{length}
 use native.Mathlib.Omega.{arith}
-use Rattle.base.specs.Bytes.{byteAt, get16, leBytes}
+use Rattle.base.specs.Bytes.{byteAt, get16, leBytes, get32}
 use mathlib.Core.Bool.{false}
 use Rattle.base.specs.Tells.{Tells, tells-no}
 use Rattle.base.specs.Blocks.{zeros}
 use Rattle.trees.specs.Area.{slotSize, tagSpace, slotBytes, slotAt}
-use Rattle.trees.specs.Coded.{get32}
 use Rattle.trees.specs.Slots.{slot-byte, slot-is}
 use borrow.Author.Count.{below-more}
 

@@ -2,14 +2,14 @@
 ghost use mathlib.Core.Path.{_≡_};
 ghost use Prim.Native.Nat.{_+_, _-_, _*_, _<_, _≤_};
 ghost use lib.ListN.{length, set};
-ghost use Rattle.base.specs.Bytes.{byteAt, get16, put16};
+ghost use Rattle.base.specs.Bytes.{byteAt, get16, put16, get32};
 ghost use Rattle.base.specs.Tells.{Tells};
 ghost use Rattle.trees.specs.Area.{slotSize, maxSlots, areaSize, tagSpace};
 ghost use Rattle.walks.specs.Frames.{Within};
 ghost use Rattle.walks.specs.Turning.{Turned};
 ghost use Rattle.walks.specs.Reading.{leafOf};
 ghost use Rattle.walks.specs.Walking.{Wandered};
-ghost use Rattle.trees.specs.Coded.{nodeSize, get32};
+ghost use Rattle.trees.specs.Coded.{nodeSize};
 ghost use Rattle.walks.specs.Slots.{Used};
 ghost use Rattle.grammar.specs.Rows.{bodySpace, grammarIn};
 ghost use Rattle.walks.specs.Closing.{Heads, Clear, ClearTo, Reads};
@@ -61,10 +61,10 @@ fn is_used(area: &[u8], s: usize) -> bool
     ensures { λ r. ⌜ Tells (Used (now (area .entry)) s) r ⌝ }
 {
     let at = trees::SLOT_SIZE * s;
-    if area[at] != 0x4E {
+    if area[at] != trees::NODE_MARK {
         return false;
     }
-    if area[at + 1] != 0x44 {
+    if area[at + 1] != trees::NODE_MARK_END {
         return false;
     }
     if area[at + 14] != 0 {
@@ -311,10 +311,10 @@ fn heads(area: &[u8], used: usize, tokens: usize) -> bool
     requires { ⌜ (slotSize ≤ length (now area)) × (used < 65536) × (tokens < 65536) ⌝ }
     ensures { λ r. ⌜ Tells (Heads (now (area .entry)) used tokens) r ⌝ }
 {
-    if area[0] != 0x54 {
+    if area[0] != trees::TREE_MARK {
         return false;
     }
-    if area[1] != 0x52 {
+    if area[1] != trees::TREE_MARK_END {
         return false;
     }
     if two(area, 4) != used {
