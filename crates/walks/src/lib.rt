@@ -1,21 +1,22 @@
-// Walking a tree area of whatever bytes back into the list of its nodes.
+// Walking a tree area of whatever bytes back into the list of its nodes. Siblings that wait to be visited are a frame: the slot of the first of them, their parent's,
+// the parent's production and the place in its body. A slot is held against its frame when it is visited, so that its symbol, production, parent and links are right;
+// afterwards the header and the slots that were not visited are looked at.
 ghost use mathlib.Core.Path.{_≡_};
-ghost use Prim.Native.Nat.{_+_, _-_, _*_, _<_, _≤_};
-ghost use lib.ListN.{length, set};
-ghost use Rattle.base.specs.Bytes.{byteAt, get16, put16, get32};
+ghost use Prim.Native.Nat.{_+_, _*_, _<_, _≤_};
+ghost use lib.ListN.{length};
+ghost use Rattle.base.specs.Bytes.{byteAt, get16, get32, put16};
 ghost use Rattle.base.specs.Tells.{Tells};
-ghost use Rattle.trees.specs.Area.{slotSize, maxSlots, areaSize, tagSpace};
-ghost use Rattle.walks.specs.Frames.{Within};
-ghost use Rattle.walks.specs.Turning.{Turned};
-ghost use Rattle.walks.specs.Reading.{leafOf};
-ghost use Rattle.walks.specs.Walking.{Wandered};
-ghost use Rattle.trees.specs.Coded.{nodeSize};
-ghost use Rattle.walks.specs.Slots.{Used};
 ghost use Rattle.grammar.specs.Rows.{bodySpace, grammarIn};
-ghost use Rattle.walks.specs.Closing.{Heads, Clear, ClearTo, Reads};
+ghost use Rattle.trees.specs.Area.{slotSize, maxSlots, areaSize, tagSpace};
+ghost use Rattle.walks.specs.Slots.{Used};
+ghost use Rattle.walks.specs.Frames.{Within};
+ghost use Rattle.walks.specs.Reading.{leafOf};
 ghost use Rattle.walks.specs.Judging.{Kin, Judged};
 ghost use Rattle.walks.specs.Stacked.{frameSize, placeOf, workSize, lengthOf, bodyOf, Framed};
 ghost use Rattle.walks.specs.Pushing.{Pushed, Settled};
+ghost use Rattle.walks.specs.Turning.{Turned};
+ghost use Rattle.walks.specs.Walking.{Wandered};
+ghost use Rattle.walks.specs.Closing.{Heads, Clear, ClearTo, Reads};
 
 pub const FRAME_SIZE: usize = 6;
 
@@ -355,6 +356,7 @@ fn all_clear(area: &[u8], marks: &[u8], slots: usize) -> bool
 }
 
 // Walks an area of whatever bytes back into the list of its nodes, at the beginning of `work`, or finds that it is no valid tree of the grammar in the rows.
+// Behind the nodes `work` holds the frames; `marks` has a byte for each slot.
 pub fn read_tree(
     area: &[u8],
     slots: usize,
@@ -364,17 +366,17 @@ pub fn read_tree(
     start: usize,
     count: usize,
     work: &mut [u8],
-    draft: &mut [u8],
+    marks: &mut [u8],
 ) -> Walked
-    requires { ⌜ (1 ≤ slots) × (slots ≤ maxSlots) × (length (now area) ≡ areaSize slots) × (workSize slots ≤ length (now work)) × (slots < length (now draft)) ⌝ }
+    requires { ⌜ (1 ≤ slots) × (slots ≤ maxSlots) × (length (now area) ≡ areaSize slots) × (workSize slots ≤ length (now work)) × (slots < length (now marks)) ⌝ }
     ensures { λ r. ⌜ Reads (grammarIn (now (rows .entry)) t n start count) slots (now (area .entry)) (now (work .exit)) r ⌝ }
 {
-    let Course::Through(nodes, leaves) = walk(area, slots, rows, t, n, start, count, work, draft)
+    let Course::Through(nodes, leaves) = walk(area, slots, rows, t, n, start, count, work, marks)
     else {
         return Walked::NoTree;
     };
     if heads(area, nodes, leaves) {
-        if all_clear(area, draft, slots) {
+        if all_clear(area, marks, slots) {
             return Walked::Tree(nodes);
         }
     }
