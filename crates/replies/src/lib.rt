@@ -41,7 +41,7 @@ pub enum Reply {
     Refused(Reason),
 }
 
-fn number_of(reply: Reply) -> u64
+pub fn number_of(reply: Reply) -> u64
     ensures { λ r. ⌜ r ≡ numberOf reply ⌝ }
 {
     match reply {
@@ -61,7 +61,7 @@ fn number_of(reply: Reply) -> u64
     }
 }
 
-fn place_of(reply: Reply) -> u64
+pub fn place_of(reply: Reply) -> u64
     ensures { λ r. ⌜ r ≡ placeOf reply ⌝ }
 {
     match reply {
@@ -81,7 +81,7 @@ fn place_of(reply: Reply) -> u64
     }
 }
 
-fn expected_of(reply: Reply) -> u32
+pub fn expected_of(reply: Reply) -> u32
     ensures { λ r. ⌜ r ≡ expectedOf reply ⌝ }
 {
     match reply {

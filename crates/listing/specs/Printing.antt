@@ -1,0 +1,117 @@
+-- What the program prints of a reply and its tree area is what it should print; and it can print nothing else.
+use Prim.Native.Nat.{ℕ, _*_, _≤_, _<_}
+use mathlib.Core.Path.{_≡_, refl, sym, ap, _∙_, subst}
+use mathlib.Core.List.{List}
+use lib.ListN.{length, take}
+use native.Mathlib.Omega.{arith}
+use Rattle.base.specs.Choose.{never}
+use Rattle.base.specs.Blocks.{zeros, length-zeros}
+use Rattle.grammar.specs.Grammar.{Grammar}
+use Rattle.grammar.specs.Reference.{referenceImage}
+use Rattle.grammar.specs.Forest.{Forest, size}
+use Rattle.tables.specs.Tables.{tablesSize}
+use Rattle.trees.specs.Area.{maxSlots, areaSize, slots, Area}
+use Rattle.replies.specs.Reply.{numberOf, placeOf, expectedOf, countsOf}
+use Rattle.replies.specs.declared.Counts.{Counts}
+use Rattle.replies.specs.declared.Reason.{Reason}
+use Rattle.replies.specs.declared.Reply.{Reply}
+use Rattle.replies.specs.declared.Reply.the-variants.{Accepted, Refused}
+use Rattle.kindlesap.specs.Judged.{Judged, Opened, useless, conflict, fit, bad-image, good-image}
+use Rattle.kindlesap.specs.Prepare.{Prepares, prepares-one}
+use Rattle.kindlesap.specs.Parse.{workAreas, upFrom, parseCounts, Fits, ParseOutcome, parse-one, wrong-tables, wrong-area, short-work, bad-token, wrong-syntax, no-room, stored}
+use Rattle.listing.specs.Text.{maxInput, refusedText, acceptedText, Parsed, Prints, too-long, refused, accepted}
+use Rattle.listing.specs.Writing.{Written, written-whole}
+use Rattle.listing.specs.Rows.{areaText, accepted-text}
+
+-- the text of a reply, and of the area that parse has left
+abbrev pub replyText : Reply → List ℕ → List ℕ
+replyText (Accepted c) b = areaText b (c .total)
+replyText (Refused x) b = refusedText (numberOf (Refused x)) (placeOf (Refused x)) (expectedOf (Refused x))
+
+-- what parse leaves in 1,000 slots: a refusal, or a tree in order
+pub data Left (b : List ℕ) : Reply → Type 0 where
+  nothing : (x : Reason) → Left b (Refused x)
+  tree : (f : Forest) → size f ≤ maxSlots → Area maxSlots f b → slots f ≡ upFrom 1 (size f) → Left b (Accepted (parseCounts (size f)))
+
+pub parsed-left : {tokens b : List ℕ} {r : Reply} → Parsed tokens r b → Left b r
+parsed-left {tokens} h = opened refl (h .parses .opened)
+  where
+    fitted : {tables w b : List ℕ} {room : ℕ} {r : Reply} {G : Grammar} → w ≡ zeros (areaSize maxSlots) → Fits tables tokens room w G r b → Left b r
+    fitted e (wrong-tables n) = nothing _
+    fitted e (wrong-area t n) = nothing _
+    fitted e (short-work t z l) = nothing _
+    fitted e (bad-token t z l k) = nothing _
+    fitted e (wrong-syntax t z l s p) = nothing _
+    fitted e (no-room t z l s p) = nothing _
+    fitted {b = b} e (stored {S = S} f t z l s p a) =
+        let q : S ≡ maxSlots = omega (arith, z .long, ap length e, length-zeros (areaSize maxSlots)) in
+        tree f (omega (arith, p .fits)) (subst (λ (k : ℕ). Area k f b) q a) (p .order)
+
+    judged : {tables w b : List ℕ} {room : ℕ} {r : Reply} {G : Grammar} → w ≡ zeros (areaSize maxSlots) → Judged G (Fits tables tokens room w G) w r b → Left b r
+    judged e (useless k) = nothing _
+    judged e (conflict n k) = nothing _
+    judged e (fit p q) = fitted e q
+
+    opened : {image tables w b : List ℕ} {room : ℕ} {r : Reply} → w ≡ zeros (areaSize maxSlots) → Opened image (Fits tables tokens room w) w r b → Left b r
+    opened e (bad-image k) = nothing _
+    opened e (good-image i j) = judged e j
+
+pub left-few : {b : List ℕ} {r : Reply} → Left b r → countsOf r .total ≤ maxSlots
+left-few (nothing x) = omega arith
+left-few (tree f l a o) = l
+
+left-prints : {tokens b : List ℕ} {r : Reply} → length tokens ≤ maxInput → Parsed tokens r b → Left b r → Prints tokens (replyText r b)
+left-prints l h (nothing x) = refused l h
+left-prints {b = b} l h (tree f m a o) = rw (accepted-text maxSlots f b (omega arith) a m o) (accepted f l h a o)
+
+pub parsed-prints : {tokens b w w' : List ℕ} {r : Reply} {e : ℕ} → length tokens ≤ maxInput → Parsed tokens r b → Written (replyText r b) 0 w e w' → Prints tokens (take e w')
+parsed-prints l h k = rw (written-whole k) (left-prints l h (parsed-left h))
+
+pub long-prints : {tokens w w' : List ℕ} {e : ℕ} → maxInput < length tokens → Written (refusedText 7 1000 0) 0 w e w' → Prints tokens (take e w')
+long-prints l k = rw (written-whole k) (too-long l)
+
+-- ---- no second text
+
+parsed-one : {tokens b b' : List ℕ} {r r' : Reply} → Parsed tokens r b → Parsed tokens r' b' → (r ≡ r') × (b ≡ b')
+parsed-one {tokens} {b} {r = r} h k =
+    let q : h .tables ≡ k .tables = prepares-one (h .prepares) (k .prepares) .1 in
+    let y = parse-one (subst (λ (u : List ℕ). ParseOutcome referenceImage u tokens (zeros (areaSize maxSlots)) (zeros (workAreas * areaSize maxSlots)) r b (h .work)) q (h .parses)) (k .parses) in
+    (y .0, y .1)
+
+text-accepted : {tokens b : List ℕ} (f : Forest) → Parsed tokens (Accepted (parseCounts (size f))) b → Area maxSlots f b → slots f ≡ upFrom 1 (size f) → areaText b (size f) ≡ acceptedText f
+text-accepted {b = b} f h a o = accepted-text maxSlots f b (omega arith) a (left-few (parsed-left h)) o
+
+pub prints-one : {tokens t t' : List ℕ} → Prints tokens t → Prints tokens t' → t ≡ t'
+prints-one (too-long l) (too-long m) = refl
+prints-one (too-long l) (refused m h) = absurd (omega arith)
+prints-one (too-long l) (accepted f m h a o) = absurd (omega arith)
+prints-one (refused l h) (too-long m) = absurd (omega arith)
+prints-one (refused {x = x} l h) (refused {x = y} m k) = let q = parsed-one h k .0 in let e : x ≡ y = cc in rw e
+prints-one (refused l h) (accepted f m k a o) = let q = parsed-one h k .0 in never (cc)
+prints-one (accepted f l h a o) (too-long m) = absurd (omega arith)
+prints-one (accepted f l h a o) (refused m k) = let q = parsed-one h k .0 in never (cc)
+prints-one (accepted {tree = b} f l h a o) (accepted {tree = b'} f' m k a' o') =
+    let q = parsed-one h k in
+    let e : size f ≡ size f' = ap (λ (r : Reply). countsOf r .total) (q .0) in
+    let y : areaText b (size f) ≡ areaText b' (size f') = rw (e, q .1) in
+    sym (text-accepted f h a o) ∙ y ∙ text-accepted f' k a' o'
+
+-- ---- as the code has it
+
+pub reply-few : (r : Reply) (c : Counts) → r ≡ Accepted c → countsOf r .total ≤ maxSlots → c .total ≤ maxSlots
+reply-few r c q l = rw q at l
+
+pub reply-accepted : (r : Reply) (c : Counts) (b : List ℕ) {w w' : List ℕ} {e : ℕ} → r ≡ Accepted c → Written (areaText b (c .total)) 0 w e w' → Written (replyText r b) 0 w e w'
+reply-accepted r c b q h = rw q h
+
+pub reply-refused : (r : Reply) (x : Reason) (n p m : ℕ) (b : List ℕ) {w w' : List ℕ} {e : ℕ} → r ≡ Refused x → n ≡ numberOf r → p ≡ placeOf r → m ≡ expectedOf r → Written (refusedText n p m) 0 w e w' → Written (replyText r b) 0 w e w'
+reply-refused r x n p m b q en ep em h =
+    let en' : n ≡ numberOf (Refused x) = rw q at en in
+    let ep' : p ≡ placeOf (Refused x) = rw q at ep in
+    let em' : m ≡ expectedOf (Refused x) = rw q at em in
+    rw (q, ← en', ← ep', ← em') h
+
+pub parsed-of : {image tables₀ tables tokens tree₀ tree work₀ work : List ℕ} {told r : Reply} → image ≡ referenceImage → tables₀ ≡ zeros tablesSize → tree₀ ≡ zeros (areaSize maxSlots)
+    → work₀ ≡ zeros (workAreas * areaSize maxSlots) → Prepares image tables₀ told tables → ParseOutcome image tables tokens tree₀ work₀ r tree work → Parsed tokens r tree
+parsed-of {tables = tables} {work = work} {told = told} ei et ea ew h k =
+    record { told = told; tables = tables; work = work; prepares = rw (ei, et) at h; parses = rw (ei, ea, ew) at k }
