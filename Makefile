@@ -2,12 +2,20 @@
 .PHONY: run test bench clean
 
 run:
-	rt check show_grammar
+	rt check listing
 	@echo
-	@echo "The reference grammar's image, 49 bytes:"
-	@od -An -tx1 -v examples/reference.grammar
-	@echo "read back by the proved reader (production number, left side, body):"
-	@tests/run-built target/bin/show_grammar < examples/reference.grammar
+	@echo "A rule book, examples/book.txt:"
+	@echo
+	@cat examples/book.txt
+	@echo
+	@echo "Its tree, by the proved program: accepted NODES TOKENS, then for each node SLOT SYMBOL PRODUCTION PARENT TAG."
+	@echo "Symbols: 1 allow, 2 host, 3 comma, 4 except, 5 semicolon; 6 Book, 7 Rule, 8 List, 9 Rest, 10 Bar."
+	@echo
+	@examples/tokens examples/book.txt | tests/run-built target/bin/listing
+	@echo
+	@echo "The same of 'allow host 7', which ends too soon: refused, reply 9 at token 2, expected the symbols 3, 4 or 5 (bits of 56)."
+	@echo
+	@echo 'allow host 7' | examples/tokens | tests/run-built target/bin/listing
 
 test:
 	@tests/gate
