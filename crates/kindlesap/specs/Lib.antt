@@ -9,3 +9,4 @@ pub mod Storing
 pub mod Returning
 -- Across calls.
 pub mod Across
+pub mod RoundTrip
