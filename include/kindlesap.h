@@ -1,5 +1,5 @@
 /*
- * Kindlesap: LL(1) tables, trees of fixed slots, edits, for C callers.
+ * Kindlesap: LL(1) tables and trees of fixed slots, for C callers.
  *
  * Every call takes whatever bytes it is given, checks them itself, ends, and writes one of the replies below. It keeps no memory of its own:
  * the caller lends every buffer, as a pointer and a length. Lent buffers must not overlap. A buffer of length 0 may come with any pointer,

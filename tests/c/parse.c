@@ -2,32 +2,17 @@
  * Calls parse and read back as an editor would: a book is opened and read back, examples C to F, each reply, buffers of length 0, short and
  * long reply buffers, what a refusal leaves alone, and the work area, which is zero after every parse.
  */
+#include "check.h"
 #include "kindlesap.h"
 
 #include <stdio.h>
 #include <string.h>
-
-static const uint8_t reference[49] = {
-    0x47, 0x48, 0x05, 0x05, 0x06, 0x47, 0x50, 0x06, 0x02, 0x07, 0x06, 0x47, 0x50, 0x06, 0x00, 0x47, 0x50, 0x07, 0x04, 0x01, 0x08, 0x0A, 0x05, 0x47, 0x50,
-    0x08, 0x02, 0x02, 0x09, 0x47, 0x50, 0x09, 0x02, 0x03, 0x08, 0x47, 0x50, 0x09, 0x00, 0x47, 0x50, 0x0A, 0x02, 0x04, 0x08, 0x47, 0x50, 0x0A, 0x00,
-};
 
 enum { TREE = 16 + 16 * KINDLESAP_MAX_SLOTS, WORK = 3 * TREE, TOKENS = 8192 };
 
 static uint8_t image[64], tables[KINDLESAP_TABLES_SIZE + 1], tokens[TOKENS], tree[TREE + 32], work[WORK + 128], output[TOKENS], reply[64];
 static uint8_t tree_before[TREE + 32];
 static size_t image_len, tables_len, tokens_len, tree_len, work_len, output_len;
-static int passed, failed;
-
-static void expect(int holds, const char *what)
-{
-    if (holds) {
-        passed++;
-    } else {
-        failed++;
-        printf("failed: %s\n", what);
-    }
-}
 
 static uint64_t number_at(const uint8_t *bytes, size_t at, size_t size)
 {

@@ -33,7 +33,7 @@ ghost use Rattle.kindlesap.specs.ReadBack.{Returns, ReadOutcome, ReadCal
 ghost use Rattle.kindlesap.specs.Storing.{Slotted};
 ghost use Rattle.kindlesap.specs.Returning.{Giving, Treed};
 
-const WORK_AREAS: usize = 3;
+pub const WORK_AREAS: usize = 3;
 
 // Where an area's header has the number of tokens.
 const TOKENS_PLACE: usize = 6;

@@ -16,11 +16,11 @@ ghost use Rattle.listing.specs.Printing.{replyText};
 // "Input above 5,000 bytes prints `refused 7 1000 0`".
 const MAX_INPUT: usize = 5000;
 
-const SLOTS: usize = 1000;
+const SLOTS: usize = trees::MAX_SLOTS;
 
-const AREA_SIZE: usize = 16 + 16 * SLOTS;
+const AREA_SIZE: usize = trees::HEADER_SIZE + trees::SLOT_SIZE * SLOTS;
 
-const WORK_SIZE: usize = 3 * AREA_SIZE;
+const WORK_SIZE: usize = kindlesap::WORK_AREAS * AREA_SIZE;
 
 // A 64-bit number has at most 20 digits, and a mark behind it; a line has at most five such fields.
 const FIELD_ROOM: usize = 21;

@@ -1,12 +1,12 @@
 -- Poor programs that the contracts of prepare and parse rule out: one that refuses everything, and one that has one reply for all.
 use Prim.Native.Nat.{ℕ, _*_, _≤_}
-use mathlib.Core.Path.{_≡_, refl, ap, subst}
+use mathlib.Core.Path.{_≡_, refl, ap, _∙_, subst}
 use mathlib.Core.List.{List, [], _∷_}
-use lib.ListN.{length}
+use lib.ListN.{length, getD}
 use native.Mathlib.Omega.{arith}
 use Rattle.base.specs.Choose.{choose, never}
 use Rattle.base.specs.Bytes.{leBytes}
-use Rattle.base.specs.Blocks.{zeros, length-zeros}
+use Rattle.base.specs.Blocks.{zeros, byte-zeros, length-zeros}
 use Rattle.grammar.specs.Each.{Each}
 use Rattle.grammar.specs.Grammar.{Grammar, TerminalOf}
 use Rattle.grammar.specs.Prediction.{Prepared}
@@ -134,3 +134,7 @@ parse-not-one-reply r f =
     let x = nothing-accepted (a .0) (a .1) r (a .2) in
     let y = semicolon-refused (b .0) (b .1) r (b .2) in
     never (cc)
+
+-- no program leaves a byte of work that is not 0, whatever it replies
+pub parse-clears : {image tables tokens tree work tree' work' : List ℕ} {r : Reply} → ParseOutcome image tables tokens tree work r tree' work' → (i : ℕ) → getD work' i 0 ≡ 0
+parse-clears {work = work} h i = ap (λ (u : List ℕ). getD u i 0) (h .cleared) ∙ byte-zeros (length work) i
