@@ -1,0 +1,2 @@
+-- Meaning: which slots an edit keeps.
+pub mod Keeping

@@ -1,0 +1,1 @@
+// What an edit means and the theorems about it; there is no code yet.
