@@ -235,8 +235,12 @@ at-listed {f = f} (Formed.node {s = s} {M = M} {p = p} {k = k} {r = r} e c d) (p
       is = ap (λ (u : List Node). innerNode s M (suc p) ∷ u)
           (ap (λ (u : List Node). preorder k ++ u) (o .is) ∙ sym (append-assoc (preorder k) (o .before) (preorder f ++ o .behind)));
       number = omega (arith, o .number, length-append (preorder k) (o .before), preorder-size k);
-      token = omega (arith, o .token, ap (λ (w : List Token). length w) (leaves-append (preorder k) (o .before) ∙ ap (λ (u : List Token). u ++ leavesOf (o .before)) (leaves-yield c)),
-          length-append (yield k) (leavesOf (o .before)));
+      token = omega (
+        arith,
+        o .token,
+        ap (λ (w : List Token). length w) (leaves-append (preorder k) (o .before) ∙ ap (λ (u : List Token). u ++ leavesOf (o .before)) (leaves-yield c)),
+        length-append (yield k) (leavesOf (o .before)),
+      );
     }
   where
     preorder-size : (k : Forest) → length (preorder k) ≡ size k

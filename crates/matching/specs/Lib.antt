@@ -1,0 +1,2 @@
+-- How long a node's subtree is, and how many tokens it has.
+pub mod Measure
