@@ -1,2 +1,3 @@
 -- How long a node's subtree is, and how many tokens it has.
 pub mod Measure
+pub mod Finding

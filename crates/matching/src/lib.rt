@@ -3,8 +3,9 @@
 // gone through in preorder: one with tokens looks for the old node that starts with the same token, and hands on to its children without tokens.
 ghost use mathlib.Core.Path.{_≡_};
 ghost use Prim.Native.Nat.{_+_, _<_, _≤_};
-ghost use lib.ListN.{length};
+ghost use lib.ListN.{length, getD};
 ghost use Rattle.matching.specs.Measure.{treeIn, Built, Measured, Spanned, Gauged};
+ghost use Rattle.matching.specs.Finding.{Started, Found, WasTold, Sourced};
 
 // The index behind a node's subtree, and the number of its tokens.
 struct Span {
@@ -70,4 +71,57 @@ pub fn measure(
         ends[base + i] = s.end as u16;
         widths[base + i] = s.width as u16;
     }
+}
+
+// Where the nodes of each token begin among the first n; the number of tokens. The first begin at 0, as the first entry says.
+pub fn mark_starts(nodes: &[u8], n: usize, starts: &mut [u16]) -> usize
+    requires { ⌜ (n < length (now starts)) × (n ≤ 65535) × (getD (now starts) 0 0 ≡ 0) ⌝ }
+    ensures { λ r. ⌜ Started (now (nodes .entry)) n r (now (starts .exit)) × (length (now (starts .exit)) ≡ length (now (starts .entry))) × (r ≤ n) ⌝ }
+{
+    let mut t: usize = 0;
+    let mut i: usize = 0;
+    while i < n {
+        let p = trees::production_of(nodes, i);
+        i += 1;
+        if p != 0 {
+            continue;
+        }
+        t += 1;
+        starts[t] = i as u16;
+    }
+    t
+}
+
+// One of the nodes lo..hi of symbol x with tokens, as 1 + its index, or 0.
+fn find(nodes: &[u8], widths: &[u16], lo: usize, hi: usize, x: usize) -> usize
+    requires { ⌜ (hi ≤ length (now widths)) × (hi ≤ 65535) ⌝ }
+    ensures { λ r. ⌜ Found (now (nodes .entry)) (now (widths .entry)) lo hi x r × (r ≤ hi) ⌝ }
+{
+    let mut j = lo;
+    while j < hi {
+        let at = j;
+        j += 1;
+        if trees::symbol_of(nodes, at) != x {
+            continue;
+        }
+        if wide(widths[at]) == 0 {
+            continue;
+        }
+        return j;
+    }
+    0
+}
+
+// The token that t of the new sentence was in the old one, as 1 + its number; 0 for a new one.
+fn was(t: usize, place: usize, removed: usize, inserted: usize) -> usize
+    requires { ⌜ (t ≤ 65535) × (place ≤ 65535) × (removed ≤ 65535) × (inserted ≤ 65535) ⌝ }
+    ensures { λ r. ⌜ WasTold place removed inserted t r ⌝ }
+{
+    if t < place {
+        return t + 1;
+    }
+    if t < place + inserted {
+        return 0;
+    }
+    t - inserted + removed + 1
 }

@@ -1,0 +1,73 @@
+use Rattle.matching.specs.Finding.{Started, started-none, started-inner, started-leaf, Sought, sought-none, sought-symbol, sought-void, found-none, found-some, was-before, was-new, was-after}
+use Prim.Native.Nat.{_+_, _-_, _<_, _≤_}
+use mathlib.Core.Path.{_≡_}
+use lib.ListN.{length}
+use borrow.Author.Needs.{needs}
+use native.Mathlib.Omega.{arith}
+use Rattle.matching.proofs.find.Statement.{statement}
+use Rattle.matching.proofs.find.Tie as tie
+use Rattle.matching.proofs.find.Reads as reads
+use Rattle.matching.proofs.find.Lts as lts
+use Rattle.matching.proofs.wide.Reads as wide-reads
+use Rattle.trees.proofs.symbol_of.Reads as symbol-of-reads
+
+abbrev Inv-loop : tie.InvT-loop
+Inv-loop nodes widths lo hi x j₀ j = (lo ≤ j) × Sought nodes widths lo j x
+
+abbrev μ-loop : tie.MeasureT-loop
+μ-loop nodes widths lo hi x j₀ j = hi - j
+
+loop-holds : tie.Need-loop-holds Inv-loop μ-loop
+loop-holds c = search needs
+
+add-j : tie.Need-add-j Inv-loop μ-loop
+add-j c = search needs
+
+symbol-of-requires : tie.Need-symbol-of-requires Inv-loop μ-loop
+symbol-of-requires c κs = search needs
+
+loop-less : tie.Need-loop-less Inv-loop μ-loop
+loop-less c = search needs
+
+loop-again : tie.Need-loop-again Inv-loop μ-loop
+loop-again c = (search needs, sought-symbol _ _ _ _ _ _ (c .before .symbol-of .ensures .0) (search needs) (c .before .before .before .loop .inv .1))
+
+mul-wide : tie.Need-mul-wide Inv-loop μ-loop
+mul-wide c = search needs
+
+shared-slice-read-wide : tie.Need-shared-slice-read-wide Inv-loop μ-loop
+shared-slice-read-wide c = search needs
+
+wide-requires : tie.Need-wide-requires Inv-loop μ-loop
+wide-requires c κs = search needs
+
+loop-less-2 : tie.Need-loop-less-2 Inv-loop μ-loop
+loop-less-2 c = search needs
+
+loop-again-2 : tie.Need-loop-again-2 Inv-loop μ-loop
+loop-again-2 c = (search needs, sought-void _ _ _ _ _ _ (c .before .wide .ensures .0) (search needs) (c .before .before .before .before .before .before .loop .inv .1))
+
+returns : tie.Need-returns Inv-loop μ-loop
+returns c = (found-some _ _ _ _ _ _ _ _ (search needs) (search needs) (c .before .before .before .before .symbol-of .ensures .0) (search needs) (c .before .wide .ensures .0) (search needs), search needs)
+
+returns-2 : tie.Need-returns-2 Inv-loop μ-loop
+returns-2 c = (found-none _ _ _ _ _ _ (c .before .loop .inv .1) (search needs), search needs)
+
+pub find-spec : {M : Type 1} → statement M
+find-spec =
+    tie.close
+    (tie.spec
+    Inv-loop
+    μ-loop
+    loop-holds
+    add-j
+    symbol-of-requires
+    loop-less
+    loop-again
+    mul-wide
+    shared-slice-read-wide
+    wide-requires
+    loop-less-2
+    loop-again-2
+    returns
+    returns-2)

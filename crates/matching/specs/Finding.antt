@@ -1,0 +1,292 @@
+-- The old node of a symbol, with tokens, that starts with a token: the nodes between a token and the one before it are gone through.
+use Prim.Native.Nat.{ℕ, zero, suc, _+_, _-_, _≤_, _<_}
+use mathlib.Core.Path.{_≡_, refl, sym, ap, _∙_}
+use mathlib.Core.Logic.{by-cases}
+use mathlib.Core.List.{List, [], _∷_, _++_}
+use lib.ListN.{length, getD, set, take}
+use lib.Seq.{take-all, getD-set-same, getD-set-other}
+use native.Mathlib.Decide.{ℕ-discrete, decLt}
+use native.Mathlib.Omega.{arith}
+use Rattle.base.specs.Choose.{never}
+use Rattle.grammar.specs.Forest.{Forest, size, yield}
+use Rattle.trees.specs.Nodes.{Node as Entry, leavesOf, leaves-yield}
+use Rattle.trees.specs.Coded.{nodeAt, nodesFrom}
+use Rattle.plain.specs.Machine.{length-nodes}
+use Rattle.edits.specs.Keeping.{Edit, Kept, symbol, own, Node}
+use Rattle.edits.specs.Places.{at-number, at-token, Numbered, at-node, at-leaves}
+use Rattle.matching.specs.Measure.{treeIn, Built, built-size, Measured, stands}
+
+-- ---- the leaves before a node
+
+abbrev pub leafOf : ℕ → ℕ
+leafOf zero = 1
+leafOf (suc p) = 0
+
+-- how many of the first i nodes are leaves
+abbrev pub leavesTo : List ℕ → ℕ → ℕ
+leavesTo w zero = 0
+leavesTo w (suc i) = leavesTo w i + leafOf (nodeAt w i .production)
+
+leaves-mono : (w : List ℕ) (i j : ℕ) → i ≤ j → leavesTo w i ≤ leavesTo w j
+leaves-mono w i zero l = let e : i ≡ 0 = omega arith in rw e (omega arith)
+leaves-mono w i (suc j) l = by-cases (ℕ-discrete i (suc j)) (λ e. rw e (omega arith)) (λ n. omega (arith, leaves-mono w i j (omega arith)))
+
+pub leaves-next : (w : List ℕ) (i : ℕ) → leavesTo w (i + 1) ≡ leavesTo w i + leafOf (nodeAt w i .production)
+leaves-next w i = let e : i + 1 ≡ suc i = omega arith in rw e
+
+-- as the list of nodes counts them
+leaves-from : (w : List ℕ) (n base i : ℕ) → i ≤ n → leavesTo w base + length (leavesOf (take i (nodesFrom w n base))) ≡ leavesTo w (base + i)
+leaves-from w zero base zero l = let e : base + 0 ≡ base = omega arith in rw e (omega arith)
+leaves-from w zero base (suc i) l = absurd (omega arith)
+leaves-from w (suc n) base zero l = let e : base + 0 ≡ base = omega arith in rw e (omega arith)
+leaves-from w (suc n) base (suc i) l =
+    let e : base + 1 + i ≡ base + suc i = omega arith in
+    go (nodeAt w base .production) refl (rw e at (leaves-from w n (base + 1) i (omega arith))) (leaves-next w base)
+  where
+    go : (p : ℕ) → nodeAt w base .production ≡ p → leavesTo w (base + 1) + length (leavesOf (take i (nodesFrom w n (base + 1)))) ≡ leavesTo w (base + suc i)
+        → leavesTo w (base + 1) ≡ leavesTo w base + leafOf (nodeAt w base .production)
+        → leavesTo w base + length (leavesOf (nodeAt w base ∷ take i (nodesFrom w n (base + 1)))) ≡ leavesTo w (base + suc i)
+    go zero q h k = let z : leavesTo w (base + 1) ≡ leavesTo w base + 1 = rw q at k in rw q (omega (arith, h))
+    go (suc p) q h k = let z : leavesTo w (base + 1) ≡ leavesTo w base + 0 = rw q at k in rw q (omega (arith, h))
+
+all-leaves : (w : List ℕ) (n : ℕ) → length (leavesOf (nodesFrom w n 0)) ≡ leavesTo w n
+all-leaves w n =
+    let x = leaves-from w n 0 n (omega arith) in
+    let y : 0 + n ≡ n = omega arith in
+    let z = ap (λ (us : List Entry). length (leavesOf us)) (take-all n (nodesFrom w n 0) (omega (arith, length-nodes w n 0))) in
+    omega (arith, x, z, ap (leavesTo w) y)
+
+-- a node's first token is counted by the leaves before it
+pub first-token : (rows w : List ℕ) (n : ℕ) → Built rows w n 0 → {a q m t : ℕ} {f : Forest} (y : ℕ) → Node (treeIn rows w n 0) a q m t f → suc y ≡ a → t ≡ leavesTo w y
+first-token rows w n b {a} y h e =
+    let k : a - 1 ≡ y = omega arith in
+    let l = at-number h .1 in
+    let z = built-size rows w n 0 in
+    let x = leaves-from w n 0 y (omega arith) in
+    let v : 0 + y ≡ y = omega arith in
+    at-leaves (b .formed) h ∙ ap (λ (us : List Entry). length (leavesOf (take (a - 1) us))) (b .listed) ∙ ap (λ (u : ℕ). length (leavesOf (take u (nodesFrom w n 0)))) k
+    ∙ sym (zero-left (length (leavesOf (take y (nodesFrom w n 0))))) ∙ x ∙ ap (leavesTo w) v
+  where
+    zero-left : (u : ℕ) → 0 + u ≡ u
+    zero-left u = omega arith
+
+-- ---- where the nodes of each token begin
+
+-- of the first i nodes, t are leaves; entry u of `starts` is the index behind leaf u - 1
+pub record Started (w : List ℕ) (i t : ℕ) (starts : List ℕ) : Type 0 where
+  pub count : t ≡ leavesTo w i
+  pub zero-is : getD starts 0 0 ≡ 0
+  pub here : (u : ℕ) → u ≤ t → leavesTo w (getD starts u 0) ≡ u
+  pub few : (u : ℕ) → u ≤ t → getD starts u 0 ≤ i
+  pub step : (u : ℕ) → u < t → (z : ℕ) → getD starts (u + 1) 0 ≡ suc z → leavesTo w z ≡ u
+
+pub started-none : (w starts : List ℕ) → getD starts 0 0 ≡ 0 → Started w 0 0 starts
+started-none w starts e =
+    record {
+      count = refl;
+      zero-is = e;
+      here = λ u o. let z : u ≡ 0 = omega arith in rw (z, e);
+      few = λ u o. let z : u ≡ 0 = omega arith in rw (z, e) (omega arith);
+      step = λ u o. absurd (omega arith);
+    }
+
+pub started-inner : (w starts : List ℕ) (i t p : ℕ) → p ≡ nodeAt w i .production → (p ≡ 0 → ⊥) → Started w i t starts → Started w (i + 1) t starts
+started-inner w starts i t p e z h =
+    record {
+      count = h .count ∙ sym (leaves-next w i ∙ ap (λ (u : ℕ). leavesTo w i + u) (inner (nodeAt w i .production) (λ x. z (e ∙ x))) ∙ right (leavesTo w i));
+      zero-is = h .zero-is;
+      here = h .here;
+      few = λ u l. omega (arith, h .few u l);
+      step = h .step;
+    }
+  where
+    inner : (p : ℕ) → (p ≡ 0 → ⊥) → leafOf p ≡ 0
+    inner zero n = absurd (n refl)
+    inner (suc p) n = refl
+
+    right : (u : ℕ) → u + 0 ≡ u
+    right u = omega arith
+
+pub started-leaf : (w starts : List ℕ) (i t p : ℕ) → p ≡ nodeAt w i .production → p ≡ 0 → t + 1 < length starts → Started w i t starts → Started w (i + 1) (t + 1) (set starts (t + 1) (i + 1))
+started-leaf w starts i t p e z l h =
+    let k : leavesTo w (i + 1) ≡ t + 1 = leaves-next w i ∙ ap (λ (u : ℕ). leavesTo w i + leafOf u) (sym e ∙ z) ∙ ap (λ (u : ℕ). u + 1) (sym (h .count)) in
+    let same = getD-set-same starts (t + 1) (i + 1) 0 l in
+    record {
+      count = sym k;
+      zero-is = getD-set-other starts (t + 1) 0 (i + 1) 0 (λ x. omega arith) ∙ h .zero-is;
+      here = λ u o. by-cases (ℕ-discrete u (t + 1)) (λ x. rw (x, same) k) (λ x. rw (getD-set-other starts (t + 1) u (i + 1) 0 x) (h .here u (omega arith)));
+      few = λ u o. by-cases (ℕ-discrete u (t + 1)) (λ x. rw (x, same) (omega arith)) (λ x. rw (getD-set-other starts (t + 1) u (i + 1) 0 x) (omega (arith, h .few u (omega arith))));
+      step = λ u o v y. by-cases (ℕ-discrete u t)
+          (λ x. let q : getD (set starts (t + 1) (i + 1)) (u + 1) 0 ≡ i + 1 = rw x same in let r : v ≡ i = omega (arith, q, y) in rw (r, x) (sym (h .count)))
+          (λ x. h .step u (omega arith) v (sym (getD-set-other starts (t + 1) (u + 1) (i + 1) 0 (λ d. x (omega arith))) ∙ y));
+    }
+
+pub started-end : {w starts : List ℕ} {i t n : ℕ} → Started w i t starts → i ≤ n → n ≤ i → Started w n t starts
+started-end {i = i} {n = n} h l k = let e : i ≡ n = omega arith in rw e at h
+
+-- the nodes that start with token u stand from entry u to entry u + 1
+module _ {w starts : List ℕ} {i t : ℕ} (h : Started w i t starts) where
+  pub starts-low : (u y : ℕ) → u ≤ t → leavesTo w y ≡ u → getD starts u 0 ≤ y
+  starts-low zero y l e = omega (arith, h .zero-is)
+  starts-low (suc u) y l e = by-cases (decLt y (getD starts (suc u) 0)) (λ k. absurd (go (getD starts (suc u) 0) refl k)) (λ k. omega arith)
+    where
+      go : (x : ℕ) → getD starts (suc u) 0 ≡ x → y < x → ⊥
+      go zero q k = omega arith
+      go (suc z) q k =
+          let v : getD starts (u + 1) 0 ≡ suc z = let d : u + 1 ≡ suc u = omega arith in rw d q in
+          omega (arith, h .step u (omega arith) z v, leaves-mono w y z (omega arith))
+
+  pub starts-high : (u y : ℕ) → u < t → leavesTo w y ≡ u → y < getD starts (u + 1) 0
+  starts-high u y l e =
+      by-cases (decLt y (getD starts (u + 1) 0)) (λ k. k) (λ k. absurd (omega (arith, h .here (u + 1) (omega arith), leaves-mono w (getD starts (u + 1) 0) y (omega arith))))
+
+  pub starts-token : (u y : ℕ) → u < t → getD starts u 0 ≤ y → y < getD starts (u + 1) 0 → leavesTo w y ≡ u
+  starts-token u y l a b = go (getD starts (u + 1) 0) refl b
+    where
+      go : (x : ℕ) → getD starts (u + 1) 0 ≡ x → y < x → leavesTo w y ≡ u
+      go zero q k = absurd (omega arith)
+      go (suc z) q k = omega (arith, h .step u l z q, leaves-mono w y z (omega arith), h .here u (omega arith), leaves-mono w (getD starts u 0) y a)
+
+-- ---- the search
+
+-- one of the nodes lo..hi of symbol x with tokens, as 1 + its index, or 0
+pub data Found (w widths : List ℕ) (lo hi x : ℕ) : ℕ → Type 0 where
+  some : {y : ℕ} → lo ≤ y → y < hi → nodeAt w y .symbol ≡ x → (getD widths y 0 ≡ 0 → ⊥) → Found w widths lo hi x (y + 1)
+  none : ((y : ℕ) → lo ≤ y → y < hi → nodeAt w y .symbol ≡ x → (getD widths y 0 ≡ 0 → ⊥) → ⊥) → Found w widths lo hi x 0
+
+-- there is none before j
+pub record Sought (w widths : List ℕ) (lo j x : ℕ) : Type 0 where
+  pub absent : (y : ℕ) → lo ≤ y → y < j → nodeAt w y .symbol ≡ x → (getD widths y 0 ≡ 0 → ⊥) → ⊥
+
+pub sought-none : (w widths : List ℕ) (lo x : ℕ) → Sought w widths lo lo x
+sought-none w widths lo x = record { absent = λ y a b. absurd (omega arith) }
+
+sought-more : (w widths : List ℕ) (lo j x : ℕ) → (nodeAt w j .symbol ≡ x → (getD widths j 0 ≡ 0 → ⊥) → ⊥) → Sought w widths lo j x → Sought w widths lo (j + 1) x
+sought-more w widths lo j x n h =
+    record { absent = λ y a b c d. by-cases (ℕ-discrete y j) (λ e. n (rw e at c) (λ z. d (rw e z))) (λ e. h .absent y a (omega arith) c d) }
+
+pub sought-symbol : (w widths : List ℕ) (lo j x s : ℕ) → s ≡ nodeAt w j .symbol → (s ≡ x → ⊥) → Sought w widths lo j x → Sought w widths lo (j + 1) x
+sought-symbol w widths lo j x s e n h = sought-more w widths lo j x (λ c d. n (e ∙ c)) h
+
+pub sought-void : (w widths : List ℕ) (lo j x v : ℕ) → v ≡ getD widths j 0 → v ≡ 0 → Sought w widths lo j x → Sought w widths lo (j + 1) x
+sought-void w widths lo j x v e z h = sought-more w widths lo j x (λ c d. d (sym e ∙ z)) h
+
+pub found-none : (w widths : List ℕ) (lo j hi x : ℕ) → Sought w widths lo j x → hi ≤ j → Found w widths lo hi x 0
+found-none w widths lo j hi x h l = Found.none (λ y a b. h .absent y a (omega arith))
+
+pub found-some : (w widths : List ℕ) (lo j hi x s v : ℕ) → lo ≤ j → j < hi → s ≡ nodeAt w j .symbol → s ≡ x → v ≡ getD widths j 0 → (v ≡ 0 → ⊥) → Found w widths lo hi x (j + 1)
+found-some w widths lo j hi x s v a b e q f n = Found.some a b (sym e ∙ q) (λ z. n (f ∙ z))
+
+-- ---- the old token
+
+-- token t' of the new sentence was token t of the old one; of it only the edit's numbers count
+pub data Was (place removed inserted : ℕ) : ℕ → ℕ → Type 0 where
+  before : {t' t : ℕ} → t' ≡ t → t < place → Was place removed inserted t' t
+  after : {t' t : ℕ} (d : ℕ) → t' ≡ place + inserted + d → t ≡ place + removed + d → Was place removed inserted t' t
+
+-- as 1 + t, or 0
+pub data WasTold (place removed inserted t' : ℕ) : ℕ → Type 0 where
+  some : {t : ℕ} → Was place removed inserted t' t → WasTold place removed inserted t' (t + 1)
+  none : ((t : ℕ) → Was place removed inserted t' t → ⊥) → WasTold place removed inserted t' 0
+
+module _ (place removed inserted t' : ℕ) where
+  pub was-before : t' < place → WasTold place removed inserted t' (t' + 1)
+  was-before l = WasTold.some (Was.before refl l)
+
+  pub was-new : place ≤ t' → t' < place + inserted → WasTold place removed inserted t' 0
+  was-new l k = WasTold.none go
+    where
+      go : (t : ℕ) → Was place removed inserted t' t → ⊥
+      go t (Was.before e m) = omega arith
+      go t (Was.after d e f) = omega arith
+
+  pub was-after : place + inserted ≤ t' → WasTold place removed inserted t' (t' - inserted + removed + 1)
+  was-after l =
+      let e : t' ≡ place + inserted + (t' - place - inserted) = omega arith in
+      let f : t' - inserted + removed ≡ place + removed + (t' - place - inserted) = omega arith in
+      WasTold.some (Was.after (t' - place - inserted) e f)
+
+  pub was-one : {t u : ℕ} → Was place removed inserted t' t → Was place removed inserted t' u → t ≡ u
+  was-one (Was.before e l) (Was.before f k) = omega arith
+  was-one (Was.before e l) (Was.after d f g) = absurd (omega arith)
+  was-one (Was.after d f g) (Was.before e l) = absurd (omega arith)
+  was-one (Was.after d e g) (Was.after d' e' g') = omega arith
+
+-- the edit has these numbers
+pub record Numbers (e : Edit) (place removed inserted : ℕ) : Type 0 where
+  pub place-is : e .place ≡ place
+  pub removed-is : e .removed ≡ removed
+  pub inserted-is : length (e .inserted) ≡ inserted
+
+module _ {e : Edit} {place removed inserted : ℕ} (s : Numbers e place removed inserted) where
+  pub kept-was : {t' t : ℕ} → Kept e t' t → Was place removed inserted t' t
+  kept-was (Kept.before x l) = Was.before x (omega (arith, s .place-is))
+  kept-was {t'} {t} (Kept.after d x y) =
+      let u : t' ≡ place + inserted + d = omega (arith, s .place-is, s .inserted-is) in
+      let v : t ≡ place + removed + d = omega (arith, s .place-is, s .removed-is) in
+      Was.after d u v
+
+  pub was-kept : {t' t : ℕ} → Was place removed inserted t' t → Kept e t' t
+  was-kept (Was.before x l) = Kept.before x (omega (arith, s .place-is))
+  was-kept {t'} {t} (Was.after d x y) =
+      let u : t' ≡ e .place + length (e .inserted) + d = omega (arith, s .place-is, s .inserted-is) in
+      let v : t ≡ e .place + e .removed + d = omega (arith, s .place-is, s .removed-is) in
+      Kept.after d u v
+
+-- ---- the old node
+
+-- the node of the old tree, of symbol x and with tokens, that starts with the token that t' was: its number, or 0
+pub data Sourced (old : Forest) (place removed inserted t' x : ℕ) : ℕ → Type 0 where
+  some : {a q m t : ℕ} {f : Forest} → Node old a q m t f → Was place removed inserted t' t → x ≡ symbol f → 1 ≤ own f → Sourced old place removed inserted t' x a
+  none : ((a q m t : ℕ) (f : Forest) → Node old a q m t f → Was place removed inserted t' t → x ≡ symbol f → 1 ≤ own f → ⊥) → Sourced old place removed inserted t' x 0
+
+module _ (rows w : List ℕ) (n : ℕ) (b : Built rows w n 0) (ends widths : List ℕ) (g : Measured (treeIn rows w n 0) 0 0 ends widths) (T : ℕ) (starts : List ℕ) (h : Started w n T starts)
+    (place removed inserted t' x : ℕ) where
+  abbrev old : Forest
+  old = treeIn rows w n 0
+
+  -- it is a new token
+  pub source-new : {r : ℕ} → WasTold place removed inserted t' r → r ≡ 0 → Sourced old place removed inserted t' x 0
+  source-new (WasTold.some {t = t} k) e = absurd (omega arith)
+  source-new (WasTold.none k) e = Sourced.none (λ a q m t f y z c d. k t z)
+
+  told : {r : ℕ} → WasTold place removed inserted t' r → (r ≡ 0 → ⊥) → Was place removed inserted t' (r - 1)
+  told (WasTold.some {t = t} k) n = let e : t + 1 - 1 ≡ t = omega arith in rw e k
+  told (WasTold.none k) n = absurd (n refl)
+
+  -- there is no such token
+  pub source-beyond : {r : ℕ} → WasTold place removed inserted t' r → (r ≡ 0 → ⊥) → T ≤ r - 1 → Sourced old place removed inserted t' x 0
+  source-beyond {r} k z l =
+      Sourced.none (λ a q m t f y v c d.
+      let e = was-one place removed inserted t' v (told k z) in
+      let o = first-token rows w n b (a - 1) y (omega (arith, at-number y .0)) in
+      omega (arith, o, e, h .count, leaf-in a y d o))
+    where
+      leaf-in : (a : ℕ) {q m t : ℕ} {f : Forest} → Node old a q m t f → 1 ≤ own f → t ≡ leavesTo w (a - 1) → t < leavesTo w n
+      leaf-in a {t = t} y d o = omega (arith, at-token y .1, whole-tokens)
+        where
+          whole-tokens : length (yield old) ≡ leavesTo w n
+          whole-tokens = sym (ap length (leaves-yield (b .formed))) ∙ ap (λ (us : List Entry). length (leavesOf us)) (b .listed) ∙ all-leaves w n
+
+  pub source-found : {r s lo hi : ℕ} → WasTold place removed inserted t' r → (r ≡ 0 → ⊥) → r - 1 < T → lo ≡ getD starts (r - 1) 0 → hi ≡ getD starts r 0 → Found w widths lo hi x s
+      → Sourced old place removed inserted t' x s
+  source-found {r} k z l e f (Found.some {y = y} a c d o) =
+      let i = h .few r (omega arith) in
+      let v : Numbered 1 0 0 0 old (suc y) = at-node old (suc y) (omega arith) (omega (arith, built-size rows w n 0, f)) in
+      let u = stands rows w n 0 b y (v .node) (omega arith) in
+      let q : y + 1 ≡ suc y = omega arith in
+      let rr : r - 1 + 1 ≡ r = omega arith in
+      let tk : v .token ≡ r - 1 = first-token rows w n b y (v .node) refl ∙ starts-token h (r - 1) y l (omega (arith, e)) (rw (rr, ← f) c) in
+      rw q (Sourced.some (v .node) (rw tk (told k z)) (sym d ∙ u .symbol-is) (some-own (own (v .forest)) (λ x. o (g .width y (v .node) (omega arith) (omega arith) ∙ x))))
+    where
+      some-own : (k : ℕ) → (k ≡ 0 → ⊥) → 1 ≤ k
+      some-own zero n = absurd (n refl)
+      some-own (suc k) n = omega arith
+  source-found {r} k z l e f (Found.none absent) =
+      Sourced.none (λ a q m t j y v c d.
+      let y0 : suc (a - 1) ≡ a = omega (arith, at-number y .0) in
+      let tk : leavesTo w (a - 1) ≡ r - 1 = sym (first-token rows w n b (a - 1) y y0) ∙ was-one place removed inserted t' v (told k z) in
+      let u = stands rows w n 0 b (a - 1) y (omega (arith, y0)) in
+      let rr : r - 1 + 1 ≡ r = omega arith in
+      absent (a - 1) (omega (arith, e, starts-low h (r - 1) (a - 1) (omega arith) tk)) (rw f (rw rr at (starts-high h (r - 1) (a - 1) l tk))) (u .symbol-is ∙ sym c)
+      (λ o. omega (arith, d, g .width (a - 1) y (omega (arith, y0)) (omega (arith, y0)), o)))
