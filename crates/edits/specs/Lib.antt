@@ -2,3 +2,7 @@
 pub mod Keeping
 -- The nodes of a forest by number.
 pub mod Places
+-- Derivation trees and the lookaheads at their nodes.
+pub mod Guided
+-- At most one node of a symbol starts with a token.
+pub mod Stems
