@@ -6,3 +6,5 @@ pub mod Places
 pub mod Guided
 -- At most one node of a symbol starts with a token.
 pub mod Stems
+-- A new node keeps one slot at most, and a slot is kept by one at most.
+pub mod One
