@@ -8,3 +8,7 @@ pub mod Guided
 pub mod Stems
 -- A new node keeps one slot at most, and a slot is kept by one at most.
 pub mod One
+-- The two trees of an edit, and what their sentences share.
+pub mod Edited
+-- A kept node has the same symbol and production in both trees.
+pub mod Productions

@@ -37,11 +37,16 @@ keeps-back b (Keeps.above x y) = Keeps.above y x
 keeps-back b (Keeps.full n o k h p q) = Keeps.full o n (kept-back b k) (sym h) q p
 keeps-back b (Keeps.void n o k p q) = Keeps.void o n (keeps-back b k) q p
 
--- nothing is kept of what is above the root but that
+-- what is above the root is kept by nothing else, and keeps nothing else
 pub keeps-nodes : {e : Edit} {old new : Forest} {a' a : ℕ} → Keeps e old new a' a → 1 ≤ a → 1 ≤ a'
 keeps-nodes (Keeps.above x y) l = absurd (omega arith)
 keeps-nodes (Keeps.full n o k h p q) l = at-number n .0
 keeps-nodes (Keeps.void n o k p q) l = at-number n .0
+
+pub keeps-old : {e : Edit} {old new : Forest} {a' a : ℕ} → Keeps e old new a' a → 1 ≤ a' → 1 ≤ a
+keeps-old (Keeps.above x y) l = absurd (omega arith)
+keeps-old (Keeps.full n o k h p q) l = at-number o .0
+keeps-old (Keeps.void n o k p q) l = at-number o .0
 
 module _ {G : Grammar} (g : Prepared G) {old new : Forest} where
   -- a new node keeps one slot

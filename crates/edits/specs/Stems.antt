@@ -7,10 +7,10 @@ use lib.Seq.{drop-append-seam, drop-drop}
 use native.Mathlib.Omega.{arith}
 use Rattle.grammar.specs.Grammar.{Grammar}
 use Rattle.grammar.specs.Prediction.{Prepared}
-use Rattle.grammar.specs.Forest.{Token, Forest, yield, Derives}
+use Rattle.grammar.specs.Forest.{Token, Forest, size, yield, Derives}
 use Rattle.plain.specs.Plain.{ahead}
 use Rattle.edits.specs.Keeping.{symbol, own, production, below, At, here, inside, past-leaf, past-node, Node}
-use Rattle.edits.specs.Places.{tokens, at-token}
+use Rattle.edits.specs.Places.{tokens, at-some, at-token}
 use Rattle.edits.specs.Guided.{Guided, guided-tree, predicts-one}
 
 -- ---- how many nodes stand before the first leaf
@@ -94,10 +94,13 @@ module _ {G : Grammar} (w : List Token) where
 
 module _ {G : Grammar} where
   -- the first of the symbols is the first tree's
-  pub topped : {u : List Token} {xs : List ℕ} {f : Forest} → Guided G u xs f → 1 ≤ own f → (ys : List ℕ) × Guided G u (symbol f ∷ ys) f
-  topped Guided.nil h = absurd (omega arith)
-  topped (Guided.leaf {xs = xs} t d) h = (xs, Guided.leaf t d)
-  topped (Guided.node {xs = xs} m e l r k d) h = (xs, Guided.node m e l r k d)
+  pub heads : {u : List Token} {xs : List ℕ} {f : Forest} → Guided G u xs f → 1 ≤ size f → (ys : List ℕ) × (xs ≡ symbol f ∷ ys)
+  heads Guided.nil h = absurd (omega arith)
+  heads (Guided.leaf {xs = xs} t d) h = (xs, refl)
+  heads (Guided.node {xs = xs} m e l r k d) h = (xs, refl)
+
+  pub topped : {u : List Token} {xs : List ℕ} {f : Forest} → Guided G u xs f → 1 ≤ size f → (ys : List ℕ) × Guided G u (symbol f ∷ ys) f
+  topped {u} {f = f} d h = let o = heads d h in (o .0, subst (λ (ys : List ℕ). Guided G u ys f) (o .1) d)
 
 module _ {G : Grammar} (g : Prepared G) where
   -- a forest is known up to its first leaf from its symbols and the lookahead
@@ -137,7 +140,7 @@ module _ {G : Grammar} (g : Prepared G) where
       → drop j w ≡ (yield k ++ yield r) ++ u → At i par n j k a q m t f → t ≡ j → 1 ≤ own f → symbol f ≡ M → ⊥
   no-nest w {j = j} {s = s} {k = k} {r = r} {f = f} u (Guided.node m e l o c d) h b z y x =
       let q = from w (yield r ++ u) c (h ∙ append-assoc (yield k) (yield r) u) b in
-      let c' = topped (q .guided) y in
+      let c' = topped (q .guided) (at-some b) in
       let v : ahead ((yield k ++ yield r) ++ u) ≡ ahead (yield f ++ q .behind) = ap ahead (sym h ∙ ap (λ (n : ℕ). drop n w) (sym z) ∙ q .reads) in
       let n : stem f ≡ suc (stem k) = grows (Guided.node {s = s} m e l o c d) (rw x at (c' .1)) v y in
       omega (arith, stem-less b z)
