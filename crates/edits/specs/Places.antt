@@ -203,36 +203,37 @@ pub record Side (par n : ℕ) (F : Forest) (q m : ℕ) (f : Forest) : Type 0 whe
   pub child : m ≡ n + by
   pub is : f ≡ back by F
 
--- node q of F, of whose children f are those from number m on
-pub record Parent (i par n j : ℕ) (F : Forest) (q m : ℕ) (f : Forest) : Type 0 where
+-- node q of F, of whose children f are those from number m on, and start at token t
+pub record Parent (i par n j : ℕ) (F : Forest) (q m t : ℕ) (f : Forest) : Type 0 where
   pub parent : ℕ
   pub child : ℕ
   pub token : ℕ
   pub forest : Forest
   pub node : At i par n j F q parent child token forest
   pub is : f ≡ back m (below forest)
+  pub early : token ≤ t
 
-pub at-up : {i par n j a q m t : ℕ} {F f : Forest} → At i par n j F a q m t f → Side par n F q m f ⊎ Parent i par n j F q m f
+pub at-up : {i par n j a q m t : ℕ} {F f : Forest} → At i par n j F a q m t f → Side par n F q m f ⊎ Parent i par n j F q m t f
 at-up (here x y z w l) = inl (record { by = 0; parent = y; child = omega arith; is = refl })
-at-up {i} {par} {n} {j} {q = q} {m = m} {f = f} (inside {s = s} {M = M} {p = p} {k = k} {r = r} h) = go (at-up h)
+at-up {i} {par} {n} {j} {q = q} {m = m} {t = t} {f = f} (inside {s = s} {M = M} {p = p} {k = k} {r = r} h) = go (at-token h .0) (at-up h)
   where
-    go : Side i 0 k q m f ⊎ Parent (suc i) i 0 j k q m f → Side par n (Forest.node s M p k r) q m f ⊎ Parent i par n j (Forest.node s M p k r) q m f
-    go (inl o) =
+    go : j ≤ t → Side i 0 k q m f ⊎ Parent (suc i) i 0 j k q m t f → Side par n (Forest.node s M p k r) q m f ⊎ Parent i par n j (Forest.node s M p k r) q m t f
+    go b (inl o) =
         let l : 1 ≤ suc (size k + size r) = omega arith in
         let c : o .by ≡ m = omega (arith, o .child) in
-        inr (record { parent = par; child = n; token = j; forest = Forest.node s M p k r; node = here (o .parent) refl refl refl l; is = o .is ∙ ap (λ (c : ℕ). back c k) c })
-    go (inr o) = inr (record { parent = o .parent; child = o .child; token = o .token; forest = o .forest; node = inside (o .node); is = o .is })
-at-up {i} {par} {n} {j} {q = q} {m = m} {f = f} (past-leaf {s = s} {x = x} {g = g} {r = r} h) = go (at-up h)
+        inr (record { parent = par; child = n; token = j; forest = Forest.node s M p k r; node = here (o .parent) refl refl refl l; is = o .is ∙ ap (λ (c : ℕ). back c k) c; early = b })
+    go b (inr o) = inr (record { parent = o .parent; child = o .child; token = o .token; forest = o .forest; node = inside (o .node); is = o .is; early = o .early })
+at-up {i} {par} {n} {j} {q = q} {m = m} {t = t} {f = f} (past-leaf {s = s} {x = x} {g = g} {r = r} h) = go (at-up h)
   where
-    go : Side par (suc n) r q m f ⊎ Parent (suc i) par (suc n) (suc j) r q m f → Side par n (Forest.leaf s x g r) q m f ⊎ Parent i par n j (Forest.leaf s x g r) q m f
+    go : Side par (suc n) r q m f ⊎ Parent (suc i) par (suc n) (suc j) r q m t f → Side par n (Forest.leaf s x g r) q m f ⊎ Parent i par n j (Forest.leaf s x g r) q m t f
     go (inl o) = inl (record { by = suc (o .by); parent = o .parent; child = omega (arith, o .child); is = o .is })
-    go (inr o) = inr (record { parent = o .parent; child = o .child; token = o .token; forest = o .forest; node = past-leaf (o .node); is = o .is })
-at-up {i} {par} {n} {j} {q = q} {m = m} {f = f} (past-node {s = s} {M = M} {p = p} {k = k} {r = r} h) = go (at-up h)
+    go (inr o) = inr (record { parent = o .parent; child = o .child; token = o .token; forest = o .forest; node = past-leaf (o .node); is = o .is; early = o .early })
+at-up {i} {par} {n} {j} {q = q} {m = m} {t = t} {f = f} (past-node {s = s} {M = M} {p = p} {k = k} {r = r} h) = go (at-up h)
   where
-    go : Side par (suc n) r q m f ⊎ Parent (suc i + size k) par (suc n) (j + tokens k) r q m f
-        → Side par n (Forest.node s M p k r) q m f ⊎ Parent i par n j (Forest.node s M p k r) q m f
+    go : Side par (suc n) r q m f ⊎ Parent (suc i + size k) par (suc n) (j + tokens k) r q m t f
+        → Side par n (Forest.node s M p k r) q m f ⊎ Parent i par n j (Forest.node s M p k r) q m t f
     go (inl o) = inl (record { by = suc (o .by); parent = o .parent; child = omega (arith, o .child); is = o .is })
-    go (inr o) = inr (record { parent = o .parent; child = o .child; token = o .token; forest = o .forest; node = past-node (o .node); is = o .is })
+    go (inr o) = inr (record { parent = o .parent; child = o .child; token = o .token; forest = o .forest; node = past-node (o .node); is = o .is; early = o .early })
 
 -- ---- where a node is in the list of nodes
 

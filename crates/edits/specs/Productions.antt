@@ -80,8 +80,8 @@ module _ {G : Grammar} {e : Edit} {old new : Forest} (h : Trees G e old new) whe
       tops (h .prepared) (topped (x .guided) (at-some n) .1) (rw (sym s) at (topped (y .guided) (at-some o) .1)) z .0
 
   -- the same place below a kept parent
-  level : {q' q m : ℕ} {f' f : Forest} → 1 ≤ size f' → 1 ≤ size f → Side 0 0 new q' m f' ⊎ Parent 1 0 0 0 new q' m f' → Side 0 0 old q m f ⊎ Parent 1 0 0 0 old q m f → Keeps e old new q' q
-      → ((x : Parent 1 0 0 0 new q' m f') (y : Parent 1 0 0 0 old q m f) → (symbol (x .forest) ≡ symbol (y .forest)) × (production (x .forest) ≡ production (y .forest))) → Level G f' f
+  level : {q' q m t' t : ℕ} {f' f : Forest} → 1 ≤ size f' → 1 ≤ size f → Side 0 0 new q' m f' ⊎ Parent 1 0 0 0 new q' m t' f' → Side 0 0 old q m f ⊎ Parent 1 0 0 0 old q m t f → Keeps e old new q' q
+      → ((x : Parent 1 0 0 0 new q' m t' f') (y : Parent 1 0 0 0 old q m t f) → (symbol (x .forest) ≡ symbol (y .forest)) × (production (x .forest) ≡ production (y .forest))) → Level G f' f
   level {m = m} {f' = f'} {f = f} l l' (inl x) (inl y) k same =
       let i : x .by ≡ m = omega (arith, x .child) in
       let j : y .by ≡ m = omega (arith, y .child) in
