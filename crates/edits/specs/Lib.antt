@@ -12,3 +12,5 @@ pub mod One
 pub mod Edited
 -- A kept node has the same symbol and production in both trees.
 pub mod Productions
+-- Every node that starts before the place is kept.
+pub mod Before
