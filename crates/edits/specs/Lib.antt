@@ -14,3 +14,5 @@ pub mod Edited
 pub mod Productions
 -- Every node that starts before the place is kept.
 pub mod Before
+-- A kept node that starts after the removed run carries its whole subtree along.
+pub mod After
