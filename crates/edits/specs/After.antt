@@ -34,7 +34,7 @@ first-own Forest.nil = refl
 first-own (Forest.leaf s a g r) = refl
 first-own (Forest.node s M p k r) = rw (append-nil (yield k))
 
-first-below : (f f' : Forest) → Same (first f) (first f') → Same (below f) (below f')
+pub first-below : (f f' : Forest) → Same (first f) (first f') → Same (below f) (below f')
 first-below Forest.nil Forest.nil h = Same.nil
 first-below (Forest.leaf s a g r) (Forest.leaf s' a' g' r') h = Same.nil
 first-below (Forest.node s M p k r) (Forest.node s' M' p' k' r') (Same.node h i) = h
@@ -44,7 +44,7 @@ below-tokens Forest.nil = omega arith
 below-tokens (Forest.leaf s a g r) = omega arith
 below-tokens (Forest.node s M p k r) = omega arith
 
-tree-size : (f : Forest) → treeSize f ≤ suc (size (below f))
+pub tree-size : (f : Forest) → treeSize f ≤ suc (size (below f))
 tree-size Forest.nil = omega arith
 tree-size (Forest.leaf s a g r) = omega arith
 tree-size (Forest.node s M p k r) = omega arith
@@ -122,6 +122,15 @@ module _ (e : Edit) (old new : Forest) where
 pub record Carried (e : Edit) (old new : Forest) (a' : ℕ) (f' : Forest) (a : ℕ) (f : Forest) : Type 0 where
   pub same : Same (first f) (first f')
   pub each : (c : ℕ) → c < treeSize f → Keeps e old new (a' + c) (a + c)
+
+tree-some : (f : Forest) → 1 ≤ size f → 0 < treeSize f
+tree-some Forest.nil l = absurd (omega arith)
+tree-some (Forest.leaf s a g r) l = omega arith
+tree-some (Forest.node s M p k r) l = omega arith
+
+-- the node itself is kept
+pub carried-keeps : {e : Edit} {old new : Forest} {a' a : ℕ} {f' f : Forest} → Carried e old new a' f' a f → 1 ≤ size f → Keeps e old new a' a
+carried-keeps {e} {old} {new} {f = f} c l = keeps-as e old new (omega arith) (omega arith) (c .each 0 (tree-some f l))
 
 -- a kept node starts with a kept token, or has none
 pub keeps-start : {e : Edit} {old new : Forest} {a' q' m' t' a q m t : ℕ} {f' f : Forest} → Keeps e old new a' a → Node new a' q' m' t' f' → Node old a q m t f

@@ -16,3 +16,5 @@ pub mod Productions
 pub mod Before
 -- A kept node that starts after the removed run carries its whole subtree along.
 pub mod After
+-- What the tree area keeps of a subtree that is carried along.
+pub mod Untouched
