@@ -24,32 +24,38 @@ first Forest.nil = Forest.nil
 first (Forest.leaf s a g r) = Forest.leaf s a g Forest.nil
 first (Forest.node s M p k r) = Forest.node s M p k Forest.nil
 
+-- its tokens, then those of the trees beside it
 first-yield : (f : Forest) → yield f ≡ yield (first f) ++ yield (beside f)
 first-yield Forest.nil = refl
 first-yield (Forest.leaf s a g r) = refl
 first-yield (Forest.node s M p k r) = rw (append-nil (yield k))
 
+-- its tokens are as many
 first-own : (f : Forest) → tokens (first f) ≡ own f
 first-own Forest.nil = refl
 first-own (Forest.leaf s a g r) = refl
 first-own (Forest.node s M p k r) = rw (append-nil (yield k))
 
+-- trees that differ in slots only have such children
 pub first-below : (f f' : Forest) → Same (first f) (first f') → Same (below f) (below f')
 first-below Forest.nil Forest.nil h = Same.nil
 first-below (Forest.leaf s a g r) (Forest.leaf s' a' g' r') h = Same.nil
 first-below (Forest.node s M p k r) (Forest.node s' M' p' k' r') (Same.node h i) = h
 
+-- a node's children have no more tokens than it
 below-tokens : (f : Forest) → tokens (below f) ≤ own f
 below-tokens Forest.nil = omega arith
 below-tokens (Forest.leaf s a g r) = omega arith
 below-tokens (Forest.node s M p k r) = omega arith
 
+-- a tree has one node more than stand below its top
 pub tree-size : (f : Forest) → treeSize f ≤ suc (size (below f))
 tree-size Forest.nil = omega arith
 tree-size (Forest.leaf s a g r) = omega arith
 tree-size (Forest.node s M p k r) = omega arith
 
 module _ {G : Grammar} where
+  -- it is guided, before the trees beside it
   guided-first : {u : List Token} {x : ℕ} {xs : List ℕ} {f : Forest} → Guided G u (x ∷ xs) f → Guided G (yield (beside f) ++ u) (x ∷ []) (first f)
   guided-first (Guided.leaf t d) = Guided.leaf t Guided.nil
   guided-first (Guided.node m e l r k d) = Guided.node m e l r k Guided.nil
@@ -69,12 +75,14 @@ module _ (e : Edit) (old new : Forest) where
   abbrev Up : Forest → Forest → (i par n j : ℕ) → Type 0
   Up F k i par n j = (a q m t : ℕ) (f : Forest) → At i par n j k a q m t f → Node F a q m t f
 
+  -- the same with the numbers written otherwise
   kept-as : {a b c d : ℕ} → a ≡ b → c ≡ d → Kept e a c → Kept e b d
   kept-as x y h = rw (← x, ← y) h
 
   keeps-as : {a b c d : ℕ} → a ≡ b → c ≡ d → Keeps e old new a c → Keeps e old new b d
   keeps-as x y h = rw (← x, ← y) h
 
+  -- node c of the one keeps the slot of node c of the other
   carry : {k k' : Forest} (i par n j i' par' j' : ℕ) → Same k k' → Keeps e old new par' par → Up old k i par n j → Up new k' i' par' n j'
       → ((o : ℕ) → o < tokens k → Kept e (j' + o) (j + o)) → (c : ℕ) → c < size k → Keeps e old new (i' + c) (i + c)
   carry i par n j i' par' j' Same.nil h up up' tok c l = absurd (omega arith)
@@ -123,6 +131,7 @@ pub record Carried (e : Edit) (old new : Forest) (a' : ℕ) (f' : Forest) (a : �
   pub same : Same (first f) (first f')
   pub each : (c : ℕ) → c < treeSize f → Keeps e old new (a' + c) (a + c)
 
+-- a tree has a node
 tree-some : (f : Forest) → 1 ≤ size f → 0 < treeSize f
 tree-some Forest.nil l = absurd (omega arith)
 tree-some (Forest.leaf s a g r) l = omega arith

@@ -22,6 +22,7 @@ pub record Again (i par n j : ℕ) (F : Forest) (a q m t : ℕ) (f : Forest) : T
   pub alike : (symbol forest ≡ symbol f) × (production forest ≡ production f)
   pub tokened : Both (own f) (own forest)
 
+-- below a node, and behind one of as many nodes and tokens
 again-inside : {i par n j s M p a q m t : ℕ} {k r f : Forest} → Again (suc i) i 0 j k a q m t f → Again i par n j (Forest.node s M p k r) a q m t f
 again-inside x = record { forest = x .forest; node = inside (x .node); alike = x .alike; tokened = x .tokened }
 
@@ -31,6 +32,7 @@ again-past {i} {par} {n} {j} {a = a} {q = q} {m = m} {t = t} {k = k} {r = r} e e
     record { forest = x .forest; node = past-node y; alike = x .alike; tokened = x .tokened }
 
 module _ {G : Grammar} (g : Prepared G) where
+  -- forests of the same symbols over tokens that agree up to f
   again : {i par n j a q m t : ℕ} {xs : List ℕ} {F F' f : Forest} (o : ℕ) (u v : List Token) → Guided G u xs F → Guided G v xs F' → At i par n j F a q m t f → t ≡ j + o
       → Agree o (yield F ++ u) (yield F' ++ v) → Again i par n j F' a q m t f
   again o u v Guided.nil Guided.nil (here x y z w l) e h = absurd (omega arith)
@@ -72,6 +74,7 @@ module _ {G : Grammar} {e : Edit} {old new : Forest} (h : Trees G e old new) whe
       again (h .prepared) t [] [] (guided-tree (h .prepared) (h .first)) (guided-tree (h .prepared) (h .second)) o z
       (rw (append-nil (yield old), append-nil (yield new)) (agree-before h t l))
 
+  -- where the one has no tokens, nor has the other
   both-none : (m n : ℕ) → Both m n → m ≡ 0 → n ≡ 0
   both-none zero zero b e = refl
   both-none zero (suc n) b e = absurd b
@@ -84,7 +87,8 @@ module _ {G : Grammar} {e : Edit} {old new : Forest} (h : Trees G e old new) whe
       by-cases (decLt 0 (own f))
       (λ y. Keeps.full (x .node) o (before refl l) (x .alike .0) (both-some (own f) (own (x .forest)) (x .tokened) y) y)
       (λ y. let z : own f ≡ 0 = omega (arith, y) in
-      Keeps.void (x .node) o (up (λ z. keeps-first n (omega (arith, at-below-parent (omega arith) o)) (z .node) (omega (arith, z .early))) (at-up o)) (both-none (own f) (own (x .forest)) (x .tokened) z) z)
+      let v = up (λ z. keeps-first n (omega (arith, at-below-parent (omega arith) o)) (z .node) (omega (arith, z .early))) (at-up o) in
+      Keeps.void (x .node) o v (both-none (own f) (own (x .forest)) (x .tokened) z) z)
     where
       x : Again 1 0 0 0 new a q m t f
       x = before-again o l
@@ -93,5 +97,6 @@ module _ {G : Grammar} {e : Edit} {old new : Forest} (h : Trees G e old new) whe
       up y (inl z) = Keeps.above (z .parent) (z .parent)
       up y (inr z) = y z
 
+  -- every node that starts before the place is kept, by the node of its number
   pub before-keeps : {a q m t : ℕ} {f : Forest} → Node old a q m t f → t < e .place → Keeps e old new a a
   before-keeps {a} o l = keeps-first (suc a) (omega arith) o l

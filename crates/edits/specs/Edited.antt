@@ -9,7 +9,7 @@ use Rattle.grammar.specs.Grammar.{Grammar}
 use Rattle.grammar.specs.Prediction.{Prepared}
 use Rattle.grammar.specs.Forest.{Token, Forest, yield, Derives}
 use Rattle.plain.specs.Plain.{ahead}
-use Rattle.edits.specs.Keeping.{Edit, edited, Kept, before, after}
+use Rattle.edits.specs.Keeping.{Edit, edited, Kept, before, after, Altered}
 use Rattle.edits.specs.Places.{tokens}
 use Rattle.edits.specs.Guided.{Agree}
 
@@ -21,18 +21,26 @@ pub record Trees (G : Grammar) (e : Edit) (old new : Forest) : Type 0 where
   pub room : e .place + e .removed ≤ tokens old
   pub yields : yield new ≡ edited e (yield old)
 
+-- an edit's new tree makes such
+pub altered-trees : {G : Grammar} {S kept made up : ℕ} {e : Edit} {old new : Forest} → Prepared G → Derives G (G .start ∷ []) old → e .place + e .removed ≤ tokens old
+    → Altered G S e old new kept made up → Trees G e old new
+altered-trees g d l w = record { prepared = g; first = d; second = w .derives; room = l; yields = w .yields }
+
+-- a sentence agrees with another that begins with its first n tokens, below n
 agree-take : (j n : ℕ) (w z : List Token) → j < n → n ≤ length w → Agree j w (take n w ++ z)
 agree-take j zero w z h l = absurd (omega arith)
 agree-take j (suc n) [] z h l = absurd (omega arith)
 agree-take zero (suc n) (a ∷ w) z h l = refl
 agree-take (suc j) (suc n) (a ∷ w) z h l = (refl, agree-take j n w z (omega arith) (omega arith))
 
+-- so does a lookahead
 ahead-take : (j n : ℕ) (w z : List Token) → j < n → n ≤ length w → ahead (drop j (take n w ++ z)) ≡ ahead (drop j w)
 ahead-take j zero w z h l = absurd (omega arith)
 ahead-take j (suc n) [] z h l = absurd (omega arith)
 ahead-take zero (suc n) (a ∷ w) z h l = refl
 ahead-take (suc j) (suc n) (a ∷ w) z h l = ahead-take j n w z (omega arith) (omega arith)
 
+-- the tokens after the removed run
 drop-edited : (e : Edit) (d : ℕ) (w : List Token) → e .place ≤ length w → drop (e .place + length (e .inserted) + d) (edited e w) ≡ drop (e .place + e .removed + d) w
 drop-edited e d w l =
     let z : e .place + length (e .inserted) + d ≡ length (take (e .place) w) + (length (e .inserted) + d) = omega (arith, length-take-le (e .place) w l) in

@@ -45,6 +45,7 @@ module _ {G : Grammar} where
   pub guided-tree : {f : Forest} → Prepared G → Derives G (G .start ∷ []) f → Guided G [] (G .start ∷ []) f
   guided-tree g d = guided [] [] [] (g .formed) d Each.nil stop stop
 
+  -- it is a derivation
   pub guided-derives : {u : List Token} {xs : List ℕ} {f : Forest} → Guided G u xs f → Derives G xs f
   guided-derives Guided.nil = Derives.nil
   guided-derives (Guided.leaf t d) = Derives.leaf t (guided-derives d)
@@ -58,6 +59,7 @@ Agree (suc n) [] (b ∷ v) = ⊥
 Agree (suc n) (a ∷ u) [] = ⊥
 Agree (suc n) (a ∷ u) (b ∷ v) = (a ≡ b) × Agree n u v
 
+-- then the first lookahead is the same
 pub agree-ahead : (n : ℕ) (u v : List Token) → Agree n u v → ahead u ≡ ahead v
 agree-ahead zero u v h = h
 agree-ahead (suc n) [] [] h = refl
@@ -65,6 +67,7 @@ agree-ahead (suc n) [] (b ∷ v) h = absurd h
 agree-ahead (suc n) (a ∷ u) [] h = absurd h
 agree-ahead (suc n) (a ∷ u) (b ∷ v) h = ap (λ (t : Token). t .kind) (h .0)
 
+-- a sentence agrees with itself
 pub agree-self : (n : ℕ) (u : List Token) → Agree n u u
 agree-self zero u = refl
 agree-self (suc n) [] = tt
@@ -77,6 +80,7 @@ module _ {G : Grammar} (g : Prepared G) where
       let z = ll1-one (g .ll1) x (subst (λ (c : ℕ). Predicts G M c q) (sym e) y) in
       (z, rule-one s (rw z at r) .1)
 
+  -- two guided forests of the same symbols, over tokens that agree beyond the first, differ in slots only, and what comes behind them agrees
   pub guided-same : {xs : List ℕ} {f f' : Forest} (n : ℕ) (u v : List Token) → Guided G u xs f → Guided G v xs f'
       → Agree (tokens f + n) (yield f ++ u) (yield f' ++ v) → Same f f' × Agree n u v
   guided-same n u v Guided.nil Guided.nil h = (Same.nil, (let z : 0 + n ≡ n = omega arith in rw z at h))
@@ -104,6 +108,7 @@ module _ {G : Grammar} (g : Prepared G) where
       let y : Steps G δ [] = rw e' at (steps-of d') in
       ll1-one (g .ll1) (by-follow r x h) (by-follow s y h)
 
+-- no tokens
 none-yield : (w : List Token) → length w ≡ 0 → w ≡ []
 none-yield [] e = refl
 none-yield (a ∷ w) e = absurd (omega arith)
@@ -135,11 +140,13 @@ module _ {G : Grammar} (g : Prepared G) where
 
 -- ---- forests that differ in slots only
 
+-- they have the same tokens
 pub same-yield : {f f' : Forest} → Same f f' → yield f ≡ yield f'
 same-yield Same.nil = refl
 same-yield (Same.leaf h) = rw (same-yield h)
 same-yield (Same.node h i) = rw (same-yield h, same-yield i)
 
+-- and as many nodes
 pub same-size : {f f' : Forest} → Same f f' → size f ≡ size f'
 same-size Same.nil = refl
 same-size (Same.leaf h) = ap suc (same-size h)

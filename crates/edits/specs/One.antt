@@ -24,6 +24,7 @@ pub record Back (e e' : Edit) : Type 0 where
   pub removed : e' .removed ≡ length (e .inserted)
   pub inserted : length (e' .inserted) ≡ e .removed
 
+-- it keeps the same tokens, the other way round
 pub kept-back : {e e' : Edit} {t' t : ℕ} → Back e e' → Kept e t' t → Kept e' t t'
 kept-back b (before x l) = before (sym x) (omega (arith, b .place))
 kept-back {e} {e'} {t'} {t} b (after d x y) =

@@ -77,6 +77,7 @@ at-below-parent o (past-node h) = at-below-parent (omega arith) h
 
 -- ---- a number tells the node
 
+-- two nodes are the same one
 pub record Alike (q m t : ℕ) (f : Forest) (q' m' t' : ℕ) (f' : Forest) : Type 0 where
   pub parent : q ≡ q'
   pub child : m ≡ m'
@@ -140,6 +141,7 @@ not-both s l (inl r) (inr o) = absurd (omega arith)
 not-both s l (inr r) (inl o) = absurd (omega arith)
 not-both s l (inr r) (inr o) = absurd (omega arith)
 
+-- parent and child number are those of one node
 pub at-child : {i par n j a b q m t t' : ℕ} {F f f' : Forest} → par < i → At i par n j F a q m t f → At i par n j F b q m t' f' → a ≡ b
 at-child l (here x y z w o) (here x' y' z' w' o') = omega arith
 at-child l (here x y z w o) (inside h) = not-below l y (at-parent h)
@@ -213,6 +215,7 @@ pub record Parent (i par n j : ℕ) (F : Forest) (q m t : ℕ) (f : Forest) : Ty
   pub is : f ≡ back m (below forest)
   pub early : token ≤ t
 
+-- a node's parent is the one given, or a node of the forest
 pub at-up : {i par n j a q m t : ℕ} {F f : Forest} → At i par n j F a q m t f → Side par n F q m f ⊎ Parent i par n j F q m t f
 at-up (here x y z w l) = inl (record { by = 0; parent = y; child = omega arith; is = refl })
 at-up {i} {par} {n} {j} {q = q} {m = m} {t = t} {f = f} (inside {s = s} {M = M} {p = p} {k = k} {r = r} h) = go (at-token h .0) (at-up h)
@@ -245,6 +248,7 @@ pub record Listed (i j : ℕ) (F : Forest) (a t : ℕ) (f : Forest) : Type 0 whe
   pub number : a ≡ i + length before
   pub token : t ≡ j + length (leavesOf before)
 
+-- where a node is in the list
 pub at-listed : {ar : ℕ → ℕ} {i par n j a q m t : ℕ} {F f : Forest} → Formed ar F → At i par n j F a q m t f → Listed i j F a t f
 at-listed {F = F} d (here x y z w l) =
     record { before = []; behind = []; is = sym (append-nil (preorder F)); number = omega arith; token = omega arith }
@@ -292,6 +296,7 @@ at-leaves {a = a} {F = F} {f = f} d h =
     let e : take (a - 1) (preorder F) ≡ o .before = ap (take (a - 1)) (o .is) ∙ take-at (o .before) (preorder f ++ o .behind) (a - 1) (omega (arith, o .number)) in
     omega (arith, o .token, ap (λ (u : List Node). length (leavesOf u)) e)
 
+-- the list from node a on begins with its subtree and its siblings
 pub at-drop : {ar : ℕ → ℕ} {a q m t : ℕ} {F f : Forest} → Formed ar F → At 1 0 0 0 F a q m t f → (us : List Node) × (drop (a - 1) (preorder F) ≡ preorder f ++ us)
 at-drop {a = a} {F = F} {f = f} d h =
     let o = at-listed d h in

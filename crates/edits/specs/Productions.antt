@@ -32,6 +32,7 @@ pub record Body (G : Grammar) (f : Forest) : Type 0 where
   pub rule : Rule G (production f) (symbol f) body
   pub guided : Guided G behind body (below f)
 
+-- no trees are left of none
 none-back : (c : ℕ) → size (back c Forest.nil) ≡ 0
 none-back zero = refl
 none-back (suc c) = refl
@@ -51,10 +52,12 @@ pub record Level (G : Grammar) (f' f : Forest) : Type 0 where
   pub guided' : Guided G behind' symbols f'
   pub guided : Guided G behind symbols f
 
+-- the first of a list
 cons-head : {x y : ℕ} {xs ys : List ℕ} → x ∷ xs ≡ y ∷ ys → x ≡ y
 cons-head e = cc
 
 module _ {G : Grammar} where
+  -- their first symbol is the same
   pub level-symbol : {f' f : Forest} → Level G f' f → 1 ≤ size f' → 1 ≤ size f → symbol f' ≡ symbol f
   level-symbol l h h' = let x = heads (l .guided') h in let y = heads (l .guided) h' in cons-head (sym (x .1) ∙ y .1)
 

@@ -20,11 +20,13 @@ abbrev pub chain : ℕ → ℕ → ℕ → ℕ
 chain zero m n = m + n
 chain (suc t) m n = m
 
+-- of a forest
 abbrev pub stem : Forest → ℕ
 stem Forest.nil = 0
 stem (Forest.leaf s a g r) = 0
 stem (Forest.node s M p k r) = suc (chain (tokens k) (stem k) (stem r))
 
+-- m counts, and n too where m has no tokens, and only there
 chain-left : (t m n : ℕ) → m ≤ chain t m n
 chain-left zero m n = omega arith
 chain-left (suc t) m n = omega arith
@@ -44,6 +46,7 @@ Both zero (suc n) = ⊥
 Both (suc m) zero = ⊥
 Both (suc m) (suc n) = Unit {0}
 
+-- where the one has tokens, so has the other
 pub both-some : (m n : ℕ) → Both m n → 1 ≤ m → 1 ≤ n
 both-some zero zero h l = l
 both-some zero (suc n) h l = absurd h
@@ -77,6 +80,7 @@ pub record From (G : Grammar) (w : List Token) (t : ℕ) (f : Forest) : Type 0 w
   pub guided : Guided G behind symbols f
   pub reads : drop t w ≡ yield f ++ behind
 
+-- what the sentence has behind a leaf, and behind a node
 reads-leaf : (w : List Token) (j : ℕ) {x : Token} {v : List Token} → drop j w ≡ x ∷ v → drop (suc j) w ≡ v
 reads-leaf w j e =
     let z : j + 1 ≡ suc j = omega arith in
@@ -86,6 +90,7 @@ reads-node : (w : List Token) (j : ℕ) (k r u : List Token) → drop j w ≡ (k
 reads-node w j k r u e = sym (drop-drop (length k) j w) ∙ ap (drop (length k)) (e ∙ append-assoc k r u) ∙ drop-append-seam k (r ++ u)
 
 module _ {G : Grammar} (w : List Token) where
+  -- so it is from every node of a guided forest on
   pub from : {i par n j a q m t : ℕ} {xs : List ℕ} {F f : Forest} (u : List Token) → Guided G u xs F → drop j w ≡ yield F ++ u → At i par n j F a q m t f → From G w t f
   from {xs = xs} u d e (here x y z o l) = record { symbols = xs; behind = u; guided = d; reads = rw o e }
   from u (Guided.node {k = k} {r = r} m p l o c d) e (inside s) = from (yield r ++ u) c (e ∙ append-assoc (yield k) (yield r) u) s
@@ -99,6 +104,7 @@ module _ {G : Grammar} where
   heads (Guided.leaf {xs = xs} t d) h = (xs, refl)
   heads (Guided.node {xs = xs} m e l r k d) h = (xs, refl)
 
+  -- the symbols begin with that of the first tree
   pub topped : {u : List Token} {xs : List ℕ} {f : Forest} → Guided G u xs f → 1 ≤ size f → (ys : List ℕ) × Guided G u (symbol f ∷ ys) f
   topped {u} {f = f} d h = let o = heads d h in (o .0, subst (λ (ys : List ℕ). Guided G u ys f) (o .1) d)
 
@@ -128,6 +134,7 @@ module _ {G : Grammar} (g : Prepared G) where
       let x = stem-same c (subst (λ (δ : List ℕ). Guided G (yield f' ++ v) δ k') (o .1) c') h' in
       (o .0, x .0, x .1)
 
+  -- where a node has tokens, one node more stands before its first leaf than in its children
   grows : {u v : List Token} {s x p : ℕ} {xs ys : List ℕ} {k r f : Forest} → Guided G u (x ∷ xs) (Forest.node s x p k r) → Guided G v (x ∷ ys) f
       → ahead ((yield k ++ yield r) ++ u) ≡ ahead (yield f ++ v) → 1 ≤ own f → stem f ≡ suc (stem k)
   grows (Guided.node m e l r c d) (Guided.leaf t d') h o = absurd (omega (arith, t .1, m .0))
@@ -145,6 +152,7 @@ module _ {G : Grammar} (g : Prepared G) where
       let n : stem f ≡ suc (stem k) = grows (Guided.node {s = s} m e l o c d) (rw x at (c' .1)) v y in
       omega (arith, stem-less b z)
 
+  -- of a guided forest, first token and symbol tell the node
   starts-one : (w : List Token) {i par n j a b q q' m m' t : ℕ} {xs : List ℕ} {F f f' : Forest} (u : List Token) → Guided G u xs F → drop j w ≡ yield F ++ u
       → At i par n j F a q m t f → At i par n j F b q' m' t f' → 1 ≤ own f → 1 ≤ own f' → symbol f ≡ symbol f' → a ≡ b
   starts-one w u d e (here x y z o l) (here x' y' z' o' l') p p' h = omega arith

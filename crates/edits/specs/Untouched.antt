@@ -16,10 +16,11 @@ use Rattle.edits.specs.Places.{treeSize, at-number, at-some, at-one, at-
 use Rattle.edits.specs.Guided.{same-size}
 use Rattle.edits.specs.One.{keeps-one}
 use Rattle.edits.specs.Edited.{Trees}
-use Rattle.edits.specs.After.{first, first-below, tree-size, Carried, carried-keeps}
+use Rattle.edits.specs.After.{first, first-below, tree-size, Carried, carried-keeps, after-carries}
 
 -- ---- the slots of nodes
 
+-- as many as nodes
 length-slots : (F : Forest) → length (slots F) ≡ size F
 length-slots Forest.nil = refl
 length-slots (Forest.leaf s a g r) = ap suc (length-slots r)
@@ -53,6 +54,7 @@ given-held zero (Given.made x y z h) l = absurd (omega arith)
 given-held (suc c) (Given.made x y z h) l = given-held c h l
 
 module _ {G : Grammar} (g : Prepared G) {e : Edit} {old new : Forest} (d : Derives G (G .start ∷ []) old) where
+  -- what a node holds is the slot of the node that it keeps
   holds-slot : {a' a q m t x : ℕ} {f : Forest} → Holds e old new a' x → Keeps e old new a' a → Node old a q m t f → x ≡ top f
   holds-slot {a'} {a} (Holds.keeps {a = b} k n) k' o =
       let z : b ≡ a = keeps-one g d k k' in
@@ -127,6 +129,7 @@ first-tops Forest.nil Forest.nil h = (refl, refl, refl)
 first-tops (Forest.leaf s a g r) (Forest.leaf s' a' g' r') (Same.leaf h) = (refl, refl, refl)
 first-tops (Forest.node s M p k r) (Forest.node s' M' p' k' r') (Same.node h i) = (refl, refl, refl)
 
+-- a node is written as another of the same slot, symbol, production, tag and children
 written-as : {b : List ℕ} (f f' : Forest) → top f' ≡ top f → (symbol f' ≡ symbol f) × (production f' ≡ production f) × (tag f' ≡ tag f) → below f' ≡ below f
     → Written b f' → Written b f
 written-as {b} f f' x y z w =
@@ -136,6 +139,7 @@ written-as {b} f f' x y z w =
     let t = y .2 in
     record { parent = w .parent; next = w .next; is = cc; linked = subst (λ (k : Forest). Linked b (top f) k) z (subst (λ (s : ℕ). Linked b s (below f')) x (w .linked)) }
 
+-- a tree has one node more than stand below its top
 tree-more : (f : Forest) → 1 ≤ size (below f) → treeSize f ≡ suc (size (below f))
 tree-more Forest.nil l = absurd (omega arith)
 tree-more (Forest.leaf s a g r) l = absurd (omega arith)
@@ -182,3 +186,11 @@ module _ {G : Grammar} {S kept made up : ℕ} {e : Edit} {old new : Forest} {b b
       let z = at-one (at-below o (y .node)) (rw u at x) .forest in
       let v = carried-top k n o in
       subst (λ (r : Forest). slotAt b' (top r) ≡ slotAt b (top r)) z (linked-same (v .0 .linked) (v .1 .linked) (y .node))
+
+  -- the same said of a kept node that starts after the removed run
+  module _ {a' q' m' t' a q m t : ℕ} {f' f : Forest} (k : Keeps e old new a' a) (n : Node new a' q' m' t' f') (o : Node old a q m t f) (l : e .place + e .removed ≤ t) where
+    pub untouched-top : Written b f × Written b' f
+    untouched-top = carried-top (after-carries h k n o l) n o
+
+    pub untouched : {c q₁ m₁ t₁ : ℕ} {f₁ : Forest} → 0 < c → c < treeSize f → Node old (a + c) q₁ m₁ t₁ f₁ → slotAt b' (top f₁) ≡ slotAt b (top f₁)
+    untouched i j x = carried-bytes (after-carries h k n o l) n o i j x
