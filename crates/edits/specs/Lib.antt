@@ -2,3 +2,19 @@
 pub mod Keeping
 -- The nodes of a forest by number.
 pub mod Places
+-- Derivation trees and the lookaheads at their nodes.
+pub mod Guided
+-- At most one node of a symbol starts with a token.
+pub mod Stems
+-- A new node keeps one slot at most, and a slot is kept by one at most.
+pub mod One
+-- The two trees of an edit, and what their sentences share.
+pub mod Edited
+-- A kept node has the same symbol and production in both trees.
+pub mod Productions
+-- Every node that starts before the place is kept.
+pub mod Before
+-- A kept node that starts after the removed run carries its whole subtree along.
+pub mod After
+-- What the tree area keeps of a subtree that is carried along.
+pub mod Untouched

@@ -8,7 +8,7 @@ use lib.Seq.{take-at, drop-at}
 use native.Mathlib.Decide.{decLe, decLt}
 use native.Mathlib.Omega.{arith}
 use Rattle.grammar.specs.Forest.{Token, Forest, size, yield}
-use Rattle.trees.specs.Nodes.{Node, innerNode, leafNode, preorder, leavesOf, Formed, leaves-append, leaves-yield}
+use Rattle.trees.specs.Nodes.{Node, innerNode, leafNode, preorder, leavesOf, back, Formed, leaves-append, leaves-yield}
 use Rattle.edits.specs.Keeping.{own, below, beside, At, here, inside, past-leaf, past-node}
 
 -- how many nodes the first tree has
@@ -77,6 +77,7 @@ at-below-parent o (past-node h) = at-below-parent (omega arith) h
 
 -- ---- a number tells the node
 
+-- two nodes are the same one
 pub record Alike (q m t : ℕ) (f : Forest) (q' m' t' : ℕ) (f' : Forest) : Type 0 where
   pub parent : q ≡ q'
   pub child : m ≡ m'
@@ -140,6 +141,7 @@ not-both s l (inl r) (inr o) = absurd (omega arith)
 not-both s l (inr r) (inl o) = absurd (omega arith)
 not-both s l (inr r) (inr o) = absurd (omega arith)
 
+-- parent and child number are those of one node
 pub at-child : {i par n j a b q m t t' : ℕ} {F f f' : Forest} → par < i → At i par n j F a q m t f → At i par n j F b q m t' f' → a ≡ b
 at-child l (here x y z w o) (here x' y' z' w' o') = omega arith
 at-child l (here x y z w o) (inside h) = not-below l y (at-parent h)
@@ -194,6 +196,48 @@ pub at-next : {i par n j a q m t : ℕ} {F f : Forest} → At i par n j F a q m 
     → At i par n j F (a + treeSize f) q (suc m) (t + own f) (beside f)
 at-next h l = at-beside h (here refl refl refl refl l)
 
+-- ---- from a node to its parent
+
+-- f are the trees of F but for the first ones, and its first has the parent q and the child number m
+pub record Side (par n : ℕ) (F : Forest) (q m : ℕ) (f : Forest) : Type 0 where
+  pub by : ℕ
+  pub parent : q ≡ par
+  pub child : m ≡ n + by
+  pub is : f ≡ back by F
+
+-- node q of F, of whose children f are those from number m on, and start at token t
+pub record Parent (i par n j : ℕ) (F : Forest) (q m t : ℕ) (f : Forest) : Type 0 where
+  pub parent : ℕ
+  pub child : ℕ
+  pub token : ℕ
+  pub forest : Forest
+  pub node : At i par n j F q parent child token forest
+  pub is : f ≡ back m (below forest)
+  pub early : token ≤ t
+
+-- a node's parent is the one given, or a node of the forest
+pub at-up : {i par n j a q m t : ℕ} {F f : Forest} → At i par n j F a q m t f → Side par n F q m f ⊎ Parent i par n j F q m t f
+at-up (here x y z w l) = inl (record { by = 0; parent = y; child = omega arith; is = refl })
+at-up {i} {par} {n} {j} {q = q} {m = m} {t = t} {f = f} (inside {s = s} {M = M} {p = p} {k = k} {r = r} h) = go (at-token h .0) (at-up h)
+  where
+    go : j ≤ t → Side i 0 k q m f ⊎ Parent (suc i) i 0 j k q m t f → Side par n (Forest.node s M p k r) q m f ⊎ Parent i par n j (Forest.node s M p k r) q m t f
+    go b (inl o) =
+        let l : 1 ≤ suc (size k + size r) = omega arith in
+        let c : o .by ≡ m = omega (arith, o .child) in
+        inr (record { parent = par; child = n; token = j; forest = Forest.node s M p k r; node = here (o .parent) refl refl refl l; is = o .is ∙ ap (λ (c : ℕ). back c k) c; early = b })
+    go b (inr o) = inr (record { parent = o .parent; child = o .child; token = o .token; forest = o .forest; node = inside (o .node); is = o .is; early = o .early })
+at-up {i} {par} {n} {j} {q = q} {m = m} {t = t} {f = f} (past-leaf {s = s} {x = x} {g = g} {r = r} h) = go (at-up h)
+  where
+    go : Side par (suc n) r q m f ⊎ Parent (suc i) par (suc n) (suc j) r q m t f → Side par n (Forest.leaf s x g r) q m f ⊎ Parent i par n j (Forest.leaf s x g r) q m t f
+    go (inl o) = inl (record { by = suc (o .by); parent = o .parent; child = omega (arith, o .child); is = o .is })
+    go (inr o) = inr (record { parent = o .parent; child = o .child; token = o .token; forest = o .forest; node = past-leaf (o .node); is = o .is; early = o .early })
+at-up {i} {par} {n} {j} {q = q} {m = m} {t = t} {f = f} (past-node {s = s} {M = M} {p = p} {k = k} {r = r} h) = go (at-up h)
+  where
+    go : Side par (suc n) r q m f ⊎ Parent (suc i + size k) par (suc n) (j + tokens k) r q m t f
+        → Side par n (Forest.node s M p k r) q m f ⊎ Parent i par n j (Forest.node s M p k r) q m t f
+    go (inl o) = inl (record { by = suc (o .by); parent = o .parent; child = omega (arith, o .child); is = o .is })
+    go (inr o) = inr (record { parent = o .parent; child = o .child; token = o .token; forest = o .forest; node = past-node (o .node); is = o .is; early = o .early })
+
 -- ---- where a node is in the list of nodes
 
 -- the nodes before node a, and those behind its siblings; its first token is counted by the leaves before it
@@ -204,6 +248,7 @@ pub record Listed (i j : ℕ) (F : Forest) (a t : ℕ) (f : Forest) : Type 0 whe
   pub number : a ≡ i + length before
   pub token : t ≡ j + length (leavesOf before)
 
+-- where a node is in the list
 pub at-listed : {ar : ℕ → ℕ} {i par n j a q m t : ℕ} {F f : Forest} → Formed ar F → At i par n j F a q m t f → Listed i j F a t f
 at-listed {F = F} d (here x y z w l) =
     record { before = []; behind = []; is = sym (append-nil (preorder F)); number = omega arith; token = omega arith }
@@ -255,6 +300,7 @@ at-leaves {a = a} {F = F} {f = f} d h =
     let e : take (a - 1) (preorder F) ≡ o .before = ap (take (a - 1)) (o .is) ∙ take-at (o .before) (preorder f ++ o .behind) (a - 1) (omega (arith, o .number)) in
     omega (arith, o .token, ap (λ (u : List Node). length (leavesOf u)) e)
 
+-- the list from node a on begins with its subtree and its siblings
 pub at-drop : {ar : ℕ → ℕ} {a q m t : ℕ} {F f : Forest} → Formed ar F → At 1 0 0 0 F a q m t f → (us : List Node) × (drop (a - 1) (preorder F) ≡ preorder f ++ us)
 at-drop {a = a} {F = F} {f = f} d h =
     let o = at-listed d h in
