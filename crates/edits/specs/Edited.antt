@@ -44,8 +44,12 @@ ahead-take (suc j) (suc n) (a ∷ w) z h l = ahead-take j n w z (omega arith) (o
 drop-edited : (e : Edit) (d : ℕ) (w : List Token) → e .place ≤ length w → drop (e .place + length (e .inserted) + d) (edited e w) ≡ drop (e .place + e .removed + d) w
 drop-edited e d w l =
     let z : e .place + length (e .inserted) + d ≡ length (take (e .place) w) + (length (e .inserted) + d) = omega (arith, length-take-le (e .place) w l) in
-    rw (z, drop-append-add (take (e .place) w) (e .inserted ++ drop (e .place + e .removed) w) (length (e .inserted) + d),
-    drop-append-add (e .inserted) (drop (e .place + e .removed) w) d, drop-drop d (e .place + e .removed) w)
+    rw (
+      z,
+      drop-append-add (take (e .place) w) (e .inserted ++ drop (e .place + e .removed) w) (length (e .inserted) + d),
+      drop-append-add (e .inserted) (drop (e .place + e .removed) w) d,
+      drop-drop d (e .place + e .removed) w,
+    )
 
 module _ {G : Grammar} {e : Edit} {old new : Forest} (h : Trees G e old new) where
   -- before the place, and one token on, the sentences agree

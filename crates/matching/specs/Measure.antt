@@ -164,7 +164,56 @@ no-trees Forest.nil e = (refl, refl)
 no-trees (Forest.leaf s x g r) e = absurd (omega arith)
 no-trees (Forest.node s M p k r) e = absurd (omega arith)
 
--- of the node with number i + 1, m of k children lie behind; the others stand from index c on, and `width` tokens were met
+-- of the node with number i + 1, the first of `whole`, m children lie behind; the others, `rest`, stand from index c on
+pub record Passing (F : Forest) (base i : ℕ) (whole : Forest) (m c : ℕ) (rest : Forest) : Type 0 where
+  pub count : m + trees rest ≡ trees (below whole)
+  pub ending : c + size rest ≡ base + i + treeSize whole
+  pub low : base + i < c
+  pub next : ℕ
+  pub stands : (b : ℕ) → 1 ≤ size rest → suc c ≡ base + b → Node F b (suc i) m next rest
+
+pub pass-start : {F : Forest} {base i q n t : ℕ} {f : Forest} → Node F (suc i) q n t f → Passing F base i f 0 (base + i + 1) (below f)
+pass-start {base = base} {i = i} {t = t} {f = f} h =
+    let e = whole-size f (at-some h) in
+    record {
+      count = omega arith;
+      ending = omega (arith, e);
+      low = omega arith;
+      next = t;
+      stands = λ c x q. let d : suc (suc i) ≡ c = omega arith in rw d at (at-first h x);
+    }
+  where
+    whole-size : (f : Forest) → 1 ≤ size f → treeSize f ≡ suc (size (below f))
+    whole-size Forest.nil l = absurd (omega arith)
+    whole-size (Forest.leaf s x g r) l = refl
+    whole-size (Forest.node s M p k r) l = refl
+
+module _ {F : Forest} {base i : ℕ} {whole : Forest} {m c : ℕ} {rest : Forest} (h : Passing F base i whole m c rest) (o : 1 ≤ trees rest) where
+  -- the next child, at c
+  pub pass-here : Node F (suc c - base) (suc i) m (h .next) rest
+  pass-here = h .stands (suc c - base) (some-trees rest o) (omega (arith, h .low))
+
+  module _ {ends widths : List ℕ} (g : Measured F base (i + 1) ends widths) where
+    pub pass-end : getD ends c 0 ≡ c + treeSize rest
+    pass-end = g .end c pass-here (omega (arith, h .low)) (omega (arith, h .low))
+
+    pub pass-width : getD widths c 0 ≡ own rest
+    pass-width = g .width c pass-here (omega (arith, h .low)) (omega (arith, h .low))
+
+    pub pass-next : Passing F base i whole (m + 1) (getD ends c 0) (beside rest)
+    pass-next =
+        let d = parted rest o in
+        record {
+          count = omega (arith, h .count, d .count);
+          ending = omega (arith, h .ending, d .sizes, pass-end);
+          low = omega (arith, h .low, pass-end);
+          next = h .next + own rest;
+          stands = λ b y z. let q : suc c - base + treeSize rest ≡ b = omega (arith, z, pass-end, h .low) in
+              let r : suc m ≡ m + 1 = omega arith in
+              rw (q, r) at (at-next pass-here y);
+        }
+
+-- the same where there are k children, and `width` tokens were met
 pub record Hopping (F : Forest) (base i k m c width : ℕ) : Type 0 where
   pub parent : ℕ
   pub child : ℕ
@@ -172,12 +221,9 @@ pub record Hopping (F : Forest) (base i k m c width : ℕ) : Type 0 where
   pub whole : Forest
   pub node : Node F (suc i) parent child token whole
   pub rest : Forest
-  pub next : ℕ
+  pub passing : Passing F base i whole m c rest
   pub left : m + trees rest ≡ k
-  pub ending : c + size rest ≡ base + i + treeSize whole
   pub wide : width + length (yield rest) ≡ own whole
-  pub low : base + i < c
-  pub stands : (b : ℕ) → 1 ≤ size rest → suc c ≡ base + b → Node F b (suc i) m next rest
 
 -- the same, with what bounds the numbers
 pub record Hop (rows w : List ℕ) (n base i k m c width : ℕ) : Type 0 where
@@ -215,12 +261,9 @@ module _ (rows w : List ℕ) (n base : ℕ) (b : Built rows w n base) (i : ℕ) 
         whole = o .forest;
         node = o .node;
         rest = below (o .forest);
-        next = o .token;
+        passing = pass-start (o .node);
         left = omega (arith, v .0, a, ap (arityIn rows) y);
-        ending = omega (arith, v .1);
         wide = omega (arith, v .2);
-        low = omega arith;
-        stands = λ c x q. let d : suc (suc i) ≡ c = omega arith in rw d at (at-first (o .node) x);
       }
 
   bounded : {k m c width : ℕ} → Hopping T base i k m c width → Hop rows w n base i k m c width
@@ -231,9 +274,9 @@ module _ (rows w : List ℕ) (n base : ℕ) (b : Built rows w n base) (i : ℕ) 
       record {
         hopping = h;
         few = omega (arith, h .left);
-        short = omega (arith, h .ending);
+        short = omega (arith, h .passing .ending);
         narrow = omega (arith, h .wide);
-        on = λ o. let s = some-trees (h .rest) (omega (arith, h .left)) in omega (arith, h .ending);
+        on = λ o. let s = some-trees (h .rest) (omega (arith, h .left)) in omega (arith, h .passing .ending);
       }
 
   pub hop-start : (p k : ℕ) → p ≡ nodeAt w (base + i) .production → (p ≡ 0 → ⊥) → k ≡ lengthAt rows (p - 1) → Hop rows w n base i k 0 (base + i + 1) 0
@@ -242,12 +285,9 @@ module _ (rows w : List ℕ) (n base : ℕ) (b : Built rows w n base) (i : ℕ) 
   moved : {k m c width : ℕ} (ends widths : List ℕ) → Hopping T base i k m c width → m < k → Measured T base (i + 1) ends widths
       → Hopping T base i k (m + 1) (getD ends c 0) (width + getD widths c 0)
   moved {k} {m} {c} {width} ends widths h o g =
-      let d = parted (h .rest) (omega (arith, h .left)) in
-      let s = some-trees (h .rest) (omega (arith, h .left)) in
-      let v : suc c ≡ base + (suc c - base) = omega (arith, h .low) in
-      let x = h .stands (suc c - base) s v in
-      let e = g .end c x (omega (arith, h .low)) v in
-      let u = g .width c x (omega (arith, h .low)) v in
+      let s : 1 ≤ trees (h .rest) = omega (arith, h .left) in
+      let d = parted (h .rest) s in
+      let u = pass-width (h .passing) s g in
       record {
         parent = h .parent;
         child = h .child;
@@ -255,14 +295,9 @@ module _ (rows w : List ℕ) (n base : ℕ) (b : Built rows w n base) (i : ℕ) 
         whole = h .whole;
         node = h .node;
         rest = beside (h .rest);
-        next = h .next + own (h .rest);
+        passing = pass-next (h .passing) s g;
         left = omega (arith, h .left, d .count);
-        ending = omega (arith, h .ending, d .sizes, e);
         wide = omega (arith, h .wide, d .widths, u);
-        low = omega (arith, h .low, e);
-        stands = λ b y z. let q : suc c - base + treeSize (h .rest) ≡ b = omega (arith, z, e, h .low) in
-            let r : suc m ≡ m + 1 = omega arith in
-            rw (q, r) at (at-next x y);
       }
 
   pub hop-next : {k m c width : ℕ} (ends widths : List ℕ) (c' d : ℕ) → m < k → Hop rows w n base i k m c width → d ≡ getD widths c 0 → c' ≡ getD ends c 0 → Measured T base (i + 1) ends widths
@@ -274,7 +309,7 @@ module _ (rows w : List ℕ) (n base : ℕ) (b : Built rows w n base) (i : ℕ) 
       let h = u .hopping in
       let z = no-trees (h .rest) (omega (arith, h .left)) in
       record {
-        end-is = λ x. let q = ap treeSize (at-one x (h .node) .forest) in omega (arith, h .ending, z .0, q);
+        end-is = λ x. let q = ap treeSize (at-one x (h .node) .forest) in omega (arith, h .passing .ending, z .0, q);
         width-is = λ x. let q = ap own (at-one x (h .node) .forest) in omega (arith, h .wide, z .1, q);
       }
 
