@@ -12,9 +12,9 @@ use Rattle.grammar.specs.Forest.{Forest, size, yield}
 use Rattle.trees.specs.Nodes.{Node as Entry, leavesOf, leaves-yield}
 use Rattle.trees.specs.Coded.{nodeAt, nodesFrom}
 use Rattle.plain.specs.Machine.{length-nodes}
-use Rattle.edits.specs.Keeping.{Edit, Kept, symbol, own, Node}
-use Rattle.edits.specs.Places.{at-number, at-token, Numbered, at-node, at-leaves}
-use Rattle.matching.specs.Measure.{treeIn, Built, built-size, Measured, stands}
+use Rattle.edits.specs.Keeping.{Edit, Kept, Node}
+use Rattle.edits.specs.Places.{at-number, at-leaves}
+use Rattle.matching.specs.Measure.{treeIn, Built, built-size}
 
 -- ---- the leaves before a node
 
@@ -123,6 +123,9 @@ started-leaf w starts i t p e z l h =
 
 pub started-end : {w starts : List ℕ} {i t n : ℕ} → Started w i t starts → i ≤ n → n ≤ i → Started w n t starts
 started-end {i = i} {n = n} h l k = let e : i ≡ n = omega arith in rw e at h
+
+pub starts-in : {w starts : List ℕ} {n t r hi : ℕ} → Started w n t starts → r ≤ t → hi ≡ getD starts r 0 → hi ≤ n
+starts-in {r = r} h l e = omega (arith, h .few r l, e)
 
 -- the nodes that start with token u stand from entry u to entry u + 1
 module _ {w starts : List ℕ} {i t : ℕ} (h : Started w i t starts) where
@@ -235,58 +238,35 @@ module _ {e : Edit} {place removed inserted : ℕ} (s : Numbers e place removed 
 
 -- ---- the old node
 
--- the node of the old tree, of symbol x and with tokens, that starts with the token that t' was: its number, or 0
-pub data Sourced (old : Forest) (place removed inserted t' x : ℕ) : ℕ → Type 0 where
-  some : {a q m t : ℕ} {f : Forest} → Node old a q m t f → Was place removed inserted t' t → x ≡ symbol f → 1 ≤ own f → Sourced old place removed inserted t' x a
-  none : ((a q m t : ℕ) (f : Forest) → Node old a q m t f → Was place removed inserted t' t → x ≡ symbol f → 1 ≤ own f → ⊥) → Sourced old place removed inserted t' x 0
+-- one of the first n nodes, of symbol x and with tokens, that starts with the token that t' was, as 1 + its index; 0 where none of the tokens below T starts one
+pub data Sourced (w widths : List ℕ) (n T place removed inserted t' x : ℕ) : ℕ → Type 0 where
+  some : {y t : ℕ} → y < n → Was place removed inserted t' t → leavesTo w y ≡ t → nodeAt w y .symbol ≡ x → (getD widths y 0 ≡ 0 → ⊥)
+      → Sourced w widths n T place removed inserted t' x (y + 1)
+  none : ((y t : ℕ) → t < T → Was place removed inserted t' t → leavesTo w y ≡ t → nodeAt w y .symbol ≡ x → (getD widths y 0 ≡ 0 → ⊥) → ⊥)
+      → Sourced w widths n T place removed inserted t' x 0
 
-module _ (rows w : List ℕ) (n : ℕ) (b : Built rows w n 0) (ends widths : List ℕ) (g : Measured (treeIn rows w n 0) 0 0 ends widths) (T : ℕ) (starts : List ℕ) (h : Started w n T starts)
-    (place removed inserted t' x : ℕ) where
-  abbrev old : Forest
-  old = treeIn rows w n 0
-
+module _ (w widths : List ℕ) (n T place removed inserted t' x : ℕ) where
   -- it is a new token
-  pub source-new : {r : ℕ} → WasTold place removed inserted t' r → r ≡ 0 → Sourced old place removed inserted t' x 0
+  pub source-new : {r : ℕ} → WasTold place removed inserted t' r → r ≡ 0 → Sourced w widths n T place removed inserted t' x 0
   source-new (WasTold.some {t = t} k) e = absurd (omega arith)
-  source-new (WasTold.none k) e = Sourced.none (λ a q m t f y z c d. k t z)
+  source-new (WasTold.none k) e = Sourced.none (λ y t l z. absurd (k t z))
 
   told : {r : ℕ} → WasTold place removed inserted t' r → (r ≡ 0 → ⊥) → Was place removed inserted t' (r - 1)
   told (WasTold.some {t = t} k) n = let e : t + 1 - 1 ≡ t = omega arith in rw e k
   told (WasTold.none k) n = absurd (n refl)
 
   -- there is no such token
-  pub source-beyond : {r : ℕ} → WasTold place removed inserted t' r → (r ≡ 0 → ⊥) → T ≤ r - 1 → Sourced old place removed inserted t' x 0
-  source-beyond {r} k z l =
-      Sourced.none (λ a q m t f y v c d.
-      let e = was-one place removed inserted t' v (told k z) in
-      let o = first-token rows w n b (a - 1) y (omega (arith, at-number y .0)) in
-      omega (arith, o, e, h .count, leaf-in a y d o))
-    where
-      leaf-in : (a : ℕ) {q m t : ℕ} {f : Forest} → Node old a q m t f → 1 ≤ own f → t ≡ leavesTo w (a - 1) → t < leavesTo w n
-      leaf-in a {t = t} y d o = omega (arith, at-token y .1, whole-tokens)
-        where
-          whole-tokens : length (yield old) ≡ leavesTo w n
-          whole-tokens = sym (ap length (leaves-yield (b .formed))) ∙ ap (λ (us : List Entry). length (leavesOf us)) (b .listed) ∙ all-leaves w n
+  pub source-beyond : {r : ℕ} → WasTold place removed inserted t' r → (r ≡ 0 → ⊥) → T < r → Sourced w widths n T place removed inserted t' x 0
+  source-beyond k z l = Sourced.none (λ y t o v. absurd (omega (arith, was-one place removed inserted t' v (told k z))))
 
-  pub source-found : {r s lo hi : ℕ} → WasTold place removed inserted t' r → (r ≡ 0 → ⊥) → r - 1 < T → lo ≡ getD starts (r - 1) 0 → hi ≡ getD starts r 0 → Found w widths lo hi x s
-      → Sourced old place removed inserted t' x s
-  source-found {r} k z l e f (Found.some {y = y} a c d o) =
-      let i = h .few r (omega arith) in
-      let v : Numbered 1 0 0 0 old (suc y) = at-node old (suc y) (omega arith) (omega (arith, built-size rows w n 0, f)) in
-      let u = stands rows w n 0 b y (v .node) (omega arith) in
-      let q : y + 1 ≡ suc y = omega arith in
-      let rr : r - 1 + 1 ≡ r = omega arith in
-      let tk : v .token ≡ r - 1 = first-token rows w n b y (v .node) refl ∙ starts-token h (r - 1) y l (omega (arith, e)) (rw (rr, ← f) c) in
-      rw q (Sourced.some (v .node) (rw tk (told k z)) (sym d ∙ u .symbol-is) (some-own (own (v .forest)) (λ x. o (g .width y (v .node) (omega arith) (omega arith) ∙ x))))
-    where
-      some-own : (k : ℕ) → (k ≡ 0 → ⊥) → 1 ≤ k
-      some-own zero n = absurd (n refl)
-      some-own (suc k) n = omega arith
-  source-found {r} k z l e f (Found.none absent) =
-      Sourced.none (λ a q m t j y v c d.
-      let y0 : suc (a - 1) ≡ a = omega (arith, at-number y .0) in
-      let tk : leavesTo w (a - 1) ≡ r - 1 = sym (first-token rows w n b (a - 1) y y0) ∙ was-one place removed inserted t' v (told k z) in
-      let u = stands rows w n 0 b (a - 1) y (omega (arith, y0)) in
-      let rr : r - 1 + 1 ≡ r = omega arith in
-      absent (a - 1) (omega (arith, e, starts-low h (r - 1) (a - 1) (omega arith) tk)) (rw f (rw rr at (starts-high h (r - 1) (a - 1) l tk))) (u .symbol-is ∙ sym c)
-      (λ o. omega (arith, d, g .width (a - 1) y (omega (arith, y0)) (omega (arith, y0)), o)))
+  pub source-found : {r s lo hi : ℕ} {starts : List ℕ} → Started w n T starts → WasTold place removed inserted t' r → (r ≡ 0 → ⊥) → r ≤ T → lo ≡ getD starts (r - 1) 0 → hi ≡ getD starts r 0
+      → Found w widths lo hi x s → Sourced w widths n T place removed inserted t' x s
+  source-found {r} h k z l e f (Found.some {y = y} a c d o) =
+      let q : r - 1 + 1 ≡ r = omega arith in
+      let m : y < n = omega (arith, h .few r l, f) in
+      Sourced.some m (told k z) (starts-token h (r - 1) y (omega arith) (omega (arith, e)) (rw (q, ← f) c)) d o
+  source-found {r} h k z l e f (Found.none absent) =
+      Sourced.none (λ y t o v i d c.
+      let u : leavesTo w y ≡ r - 1 = i ∙ was-one place removed inserted t' v (told k z) in
+      let q : r - 1 + 1 ≡ r = omega arith in
+      absent y (omega (arith, e, starts-low h (r - 1) y (omega arith) u)) (rw f (rw q at (starts-high h (r - 1) y (omega arith) u))) d c)

@@ -1,3 +1,4 @@
 -- How long a node's subtree is, and how many tokens it has.
 pub mod Measure
 pub mod Finding
+pub mod Handing

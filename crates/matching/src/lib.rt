@@ -2,10 +2,11 @@
 // Of each node the index behind its subtree (`ends`) and the number of its tokens (`widths`) are measured, from the last node to the first. Then the new nodes are
 // gone through in preorder: one with tokens looks for the old node that starts with the same token, and hands on to its children without tokens.
 ghost use mathlib.Core.Path.{_≡_};
-ghost use Prim.Native.Nat.{_+_, _<_, _≤_};
+ghost use Prim.Native.Nat.{_+_, _-_, _<_, _≤_};
 ghost use lib.ListN.{length, getD};
 ghost use Rattle.matching.specs.Measure.{treeIn, Built, Measured, Spanned, Gauged};
 ghost use Rattle.matching.specs.Finding.{Started, Found, WasTold, Sourced};
+ghost use Rattle.matching.specs.Handing.{Rising, Handed, HandedAll};
 
 // The index behind a node's subtree, and the number of its tokens.
 struct Span {
@@ -124,4 +125,74 @@ fn was(t: usize, place: usize, removed: usize, inserted: usize) -> usize
         return 0;
     }
     t - inserted + removed + 1
+}
+
+// The old node of symbol x, with tokens, that starts with the token that t of the new sentence was, as 1 + its index; 0 where there is none.
+fn source(
+    nodes: &[u8],
+    n: usize,
+    widths: &[u16],
+    starts: &[u16],
+    tokens: usize,
+    place: usize,
+    removed: usize,
+    inserted: usize,
+    t: usize,
+    x: usize,
+) -> usize
+    requires { ⌜ (n ≤ 65535) × (n ≤ length (now widths)) × (tokens < length (now starts)) × Started (now nodes) n tokens (now starts) × (t ≤ 65535) × (place ≤ 65535) × (removed ≤ 65535) × (inserted ≤ 65535) ⌝ }
+    ensures { λ r. ⌜ Sourced (now (nodes .entry)) (now (widths .entry)) n tokens place removed inserted t x r × (r ≤ n) ⌝ }
+{
+    let u = was(t, place, removed, inserted);
+    if u == 0 {
+        return 0;
+    }
+    if tokens < u {
+        return 0;
+    }
+    let lo = wide(starts[u - 1]);
+    let hi = wide(starts[u]);
+    find(nodes, widths, lo, hi, x)
+}
+
+// The new node at c keeps the slot of the old one at d, if neither has tokens.
+fn hand(widths: &[u16], c: usize, d: usize, base: usize, matches: &mut [u16])
+    requires { ⌜ (c < length (now widths)) × (d < length (now widths)) × (base ≤ c) × (c - base < length (now matches)) × (d < 65535) ⌝ }
+    ensures { λ _. ⌜ Handed (now (widths .entry)) c d base (now (matches .entry)) (now (matches .exit)) ⌝ }
+{
+    if wide(widths[c]) != 0 {
+        return;
+    }
+    if wide(widths[d]) != 0 {
+        return;
+    }
+    matches[c - base] = (d + 1) as u16;
+}
+
+// The new node at i keeps the slot of the old one at j; their children.
+fn hand_on(
+    ends: &[u16],
+    widths: &[u16],
+    n: usize,
+    base: usize,
+    k: usize,
+    i: usize,
+    j: usize,
+    matches: &mut [u16],
+)
+    requires { ⌜ (base + k ≤ 65535) × (base + k ≤ length (now ends)) × (base + k ≤ length (now widths)) × (k ≤ length (now matches)) × Rising (now ends) 0 n × Rising (now ends) base (base + k) × (n ≤ base) × (base ≤ i) × (i < base + k) × (j < n) ⌝ }
+    ensures { λ _. ⌜ HandedAll (now (ends .entry)) (now (widths .entry)) base i j (now (matches .entry)) (now (matches .exit)) ⌝ }
+{
+    let last = wide(ends[i]);
+    let stop = wide(ends[j]);
+    let mut c = i + 1;
+    let mut d = j + 1;
+    while c < last {
+        if stop <= d {
+            return;
+        }
+        hand(widths, c, d, base, matches);
+        c = wide(ends[c]);
+        d = wide(ends[d]);
+    }
 }
