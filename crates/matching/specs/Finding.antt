@@ -57,18 +57,18 @@ all-leaves w n =
     omega (arith, x, z, ap (leavesTo w) y)
 
 -- a node's first token is counted by the leaves before it
-pub first-token : (rows w : List ℕ) (n : ℕ) → Built rows w n 0 → {a q m t : ℕ} {f : Forest} (y : ℕ) → Node (treeIn rows w n 0) a q m t f → suc y ≡ a → t ≡ leavesTo w y
-first-token rows w n b {a} y h e =
-    let k : a - 1 ≡ y = omega arith in
-    let l = at-number h .1 in
-    let z = built-size rows w n 0 in
-    let x = leaves-from w n 0 y (omega arith) in
-    let v : 0 + y ≡ y = omega arith in
-    at-leaves (b .formed) h ∙ ap (λ (us : List Entry). length (leavesOf (take (a - 1) us))) (b .listed) ∙ ap (λ (u : ℕ). length (leavesOf (take u (nodesFrom w n 0)))) k
-    ∙ sym (zero-left (length (leavesOf (take y (nodesFrom w n 0))))) ∙ x ∙ ap (leavesTo w) v
-  where
-    zero-left : (u : ℕ) → 0 + u ≡ u
-    zero-left u = omega arith
+pub first-token : (rows w : List ℕ) (n base : ℕ) → Built rows w n base → {a q m t : ℕ} {f : Forest} (y : ℕ) → Node (treeIn rows w n base) a q m t f → suc y ≡ base + a → leavesTo w base + t ≡ leavesTo w y
+first-token rows w n base b {a} {t = t} y h e =
+    let l = at-number h in
+    let z = built-size rows w n base in
+    let x = leaves-from w n base (a - 1) (omega arith) in
+    let v : base + (a - 1) ≡ y = omega arith in
+    let k : t ≡ length (leavesOf (take (a - 1) (nodesFrom w n base))) = at-leaves (b .formed) h ∙ ap (λ (us : List Entry). length (leavesOf (take (a - 1) us))) (b .listed) in
+    omega (arith, x, k, ap (leavesTo w) v)
+
+-- the tokens of a tree are its leaves
+pub all-tokens : (rows w : List ℕ) (n : ℕ) → Built rows w n 0 → length (yield (treeIn rows w n 0)) ≡ leavesTo w n
+all-tokens rows w n b = sym (ap length (leaves-yield (b .formed))) ∙ ap (λ (us : List Entry). length (leavesOf us)) (b .listed) ∙ all-leaves w n
 
 -- ---- where the nodes of each token begin
 

@@ -2,3 +2,5 @@
 pub mod Measure
 pub mod Finding
 pub mod Handing
+pub mod Kids
+pub mod Matching

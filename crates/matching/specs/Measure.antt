@@ -154,12 +154,12 @@ parted Forest.nil l = absurd (omega arith)
 parted (Forest.leaf s x g r) l = record { sizes = omega arith; widths = omega arith; count = refl; some = omega arith }
 parted (Forest.node s M p k r) l = record { sizes = omega arith; widths = length-append (yield k) (yield r); count = refl; some = omega arith }
 
-some-trees : (f : Forest) → 1 ≤ trees f → 1 ≤ size f
+pub some-trees : (f : Forest) → 1 ≤ trees f → 1 ≤ size f
 some-trees Forest.nil l = absurd (omega arith)
 some-trees (Forest.leaf s x g r) l = omega arith
 some-trees (Forest.node s M p k r) l = omega arith
 
-no-trees : (f : Forest) → trees f ≡ 0 → (size f ≡ 0) × (length (yield f) ≡ 0)
+pub no-trees : (f : Forest) → trees f ≡ 0 → (size f ≡ 0) × (length (yield f) ≡ 0)
 no-trees Forest.nil e = (refl, refl)
 no-trees (Forest.leaf s x g r) e = absurd (omega arith)
 no-trees (Forest.node s M p k r) e = absurd (omega arith)
