@@ -43,6 +43,21 @@ pub data Turned (w ends widths : List ℕ) (n T base place removed inserted i t 
   handed : {mid ms' : List ℕ} (j : ℕ) → Seeks w widths n T base place removed inserted i t ms mid → getD mid i 0 ≡ suc j → HandedAll ends widths base (base + i) j mid ms'
       → Turned w ends widths n T base place removed inserted i t ms ms'
 
+module _ {w widths : List ℕ} {n T base place removed inserted i t : ℕ} {ms : List ℕ} where
+  pub seeks-void : (v : ℕ) → v ≡ getD widths (base + i) 0 → v ≡ 0 → Seeks w widths n T base place removed inserted i t ms ms
+  seeks-void v e z = Seeks.void (sym e ∙ z)
+
+  pub seeks-full : (u x v : ℕ) → u ≡ getD widths (base + i) 0 → (u ≡ 0 → ⊥) → x ≡ nodeAt w (base + i) .symbol → Sourced w widths n T place removed inserted t x v
+      → Seeks w widths n T base place removed inserted i t ms (set ms i v)
+  seeks-full u x v e z f h = Seeks.full (λ o. z (e ∙ o)) (rw f at h)
+
+  pub turned-zero : {ends mid : List ℕ} (v : ℕ) → Seeks w widths n T base place removed inserted i t ms mid → v ≡ getD mid i 0 → v ≡ 0 → Turned w ends widths n T base place removed inserted i t ms mid
+  turned-zero v h e z = Turned.alone h (sym e ∙ z)
+
+  pub turned-some : {ends mid ms' : List ℕ} (v : ℕ) → Seeks w widths n T base place removed inserted i t ms mid → v ≡ getD mid i 0 → (v ≡ 0 → ⊥) → HandedAll ends widths base (base + i) (v - 1) mid ms'
+      → Turned w ends widths n T base place removed inserted i t ms ms'
+  turned-some v h e z x = let o : suc (v - 1) ≡ v = omega arith in Turned.handed (v - 1) h (sym e ∙ sym o) x
+
 -- what the turns stand on: both lists are trees, both were measured, and the old tree's tokens were marked
 pub record Ready (rows w : List ℕ) (n base k : ℕ) (ends widths : List ℕ) (T : ℕ) (starts : List ℕ) : Type 0 where
   pub old-built : Built rows w n 0
@@ -289,3 +304,14 @@ module _ {rows w : List ℕ} {n base k : ℕ} {ends widths : List ℕ} {T : ℕ}
           where
             here : (a y : ℕ) → y ≡ i → suc y ≡ a → Matched e old new a (getD mid y 0)
             here a y q o = let v : a ≡ suc i = omega arith in rw (v, q) (sought-here x)
+
+-- a turn
+pub status-turn : {rows w : List ℕ} {n base k : ℕ} {ends widths : List ℕ} {T : ℕ} {starts : List ℕ} {place removed inserted : ℕ} {e : Edit} {i t : ℕ} {ms ms' : List ℕ} → Ready rows w n base k ends widths T starts
+    → Numbers e place removed inserted → KeepsOne e (treeIn rows w n 0) (treeIn rows w k base) → i < k → k ≤ length ms → Counted w base i t → Status e (treeIn rows w n 0) (treeIn rows w k base) i ms
+    → Turned w ends widths n T base place removed inserted i t ms ms' → Status e (treeIn rows w n 0) (treeIn rows w k base) (i + 1) ms'
+status-turn {rows} {w} {base = base} {k = k} {i = i} r s one l long c h (Turned.alone x z) =
+    let o : Numbered 1 0 0 0 (treeIn rows w k base) (suc i) = at-node (treeIn rows w k base) (suc i) (omega arith) (omega (arith, built-size rows w k base)) in
+    turned-alone r s (o .node) c h (omega arith) x z
+status-turn {rows} {w} {base = base} {k = k} {i = i} r s one l long c h (Turned.handed j x z y) =
+    let o : Numbered 1 0 0 0 (treeIn rows w k base) (suc i) = at-node (treeIn rows w k base) (suc i) (omega arith) (omega (arith, built-size rows w k base)) in
+    turned-handed r s (o .node) c h (omega arith) one j x z y

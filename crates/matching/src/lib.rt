@@ -6,7 +6,8 @@ ghost use Prim.Native.Nat.{_+_, _-_, _<_, _≤_};
 ghost use lib.ListN.{length, getD};
 ghost use Rattle.matching.specs.Measure.{treeIn, Built, Measured, Spanned, Gauged};
 ghost use Rattle.matching.specs.Finding.{Started, Found, WasTold, Sourced};
-ghost use Rattle.matching.specs.Handing.{Rising, Handed, HandedAll};
+ghost use Rattle.matching.specs.Matching.{Seeks, Turned};
+ghost use Rattle.matching.specs.Handing.{Rising, Few, Handed, HandedAll};
 
 // The index behind a node's subtree, and the number of its tokens.
 struct Span {
@@ -180,8 +181,8 @@ fn hand_on(
     j: usize,
     matches: &mut [u16],
 )
-    requires { ⌜ (base + k ≤ 65535) × (base + k ≤ length (now ends)) × (base + k ≤ length (now widths)) × (k ≤ length (now matches)) × Rising (now ends) 0 n × Rising (now ends) base (base + k) × (n ≤ base) × (base ≤ i) × (i < base + k) × (j < n) ⌝ }
-    ensures { λ _. ⌜ HandedAll (now (ends .entry)) (now (widths .entry)) base i j (now (matches .entry)) (now (matches .exit)) ⌝ }
+    requires { ⌜ (base + k ≤ 65535) × (base + k ≤ length (now ends)) × (base + k ≤ length (now widths)) × (k ≤ length (now matches)) × Rising (now ends) 0 n × Rising (now ends) base (base + k) × (n ≤ base) × (base ≤ i) × (i < base + k) × (j < n) × Few n (now matches) ⌝ }
+    ensures { λ _. ⌜ HandedAll (now (ends .entry)) (now (widths .entry)) base i j (now (matches .entry)) (now (matches .exit)) × Few n (now (matches .exit)) ⌝ }
 {
     let last = wide(ends[i]);
     let stop = wide(ends[j]);
@@ -195,4 +196,82 @@ fn hand_on(
         c = wide(ends[c]);
         d = wide(ends[d]);
     }
+}
+
+// Looks for the old node of the new node i, which starts with token t, if it has tokens.
+fn seek(
+    nodes: &[u8],
+    n: usize,
+    base: usize,
+    widths: &[u16],
+    starts: &[u16],
+    tokens: usize,
+    place: usize,
+    removed: usize,
+    inserted: usize,
+    i: usize,
+    t: usize,
+    matches: &mut [u16],
+)
+    requires { ⌜ (n ≤ base) × (base ≤ 65535) × (i ≤ 65535) × (base + i < length (now widths)) × (i < length (now matches)) × (tokens < length (now starts)) × Started (now nodes) n tokens (now starts) × (t ≤ 65535) × (place ≤ 65535) × (removed ≤ 65535) × (inserted ≤ 65535) × Few n (now matches) ⌝ }
+    ensures { λ _. ⌜ Seeks (now (nodes .entry)) (now (widths .entry)) n tokens base place removed inserted i t (now (matches .entry)) (now (matches .exit)) × Few n (now (matches .exit)) ⌝ }
+{
+    if wide(widths[base + i]) == 0 {
+        return;
+    }
+    let x = trees::symbol_of(nodes, base + i);
+    let v = source(
+        nodes,
+        n,
+        widths,
+        starts,
+        tokens,
+        place,
+        removed,
+        inserted,
+        t,
+        x,
+    );
+    matches[i] = v as u16;
+}
+
+// The new node i, which starts with token t.
+fn turn(
+    nodes: &[u8],
+    n: usize,
+    base: usize,
+    k: usize,
+    ends: &[u16],
+    widths: &[u16],
+    starts: &[u16],
+    tokens: usize,
+    place: usize,
+    removed: usize,
+    inserted: usize,
+    i: usize,
+    t: usize,
+    matches: &mut [u16],
+)
+    requires { ⌜ (n ≤ base) × (base + k ≤ 65535) × (i < k) × (base + k ≤ length (now ends)) × (base + k ≤ length (now widths)) × (k ≤ length (now matches)) × (tokens < length (now starts)) × Started (now nodes) n tokens (now starts) × (t ≤ 65535) × (place ≤ 65535) × (removed ≤ 65535) × (inserted ≤ 65535) × Rising (now ends) 0 n × Rising (now ends) base (base + k) × Few n (now matches) ⌝ }
+    ensures { λ _. ⌜ Turned (now (nodes .entry)) (now (ends .entry)) (now (widths .entry)) n tokens base place removed inserted i t (now (matches .entry)) (now (matches .exit)) × Few n (now (matches .exit)) ⌝ }
+{
+    seek(
+        nodes,
+        n,
+        base,
+        widths,
+        starts,
+        tokens,
+        place,
+        removed,
+        inserted,
+        i,
+        t,
+        matches,
+    );
+    let v = wide(matches[i]);
+    if v == 0 {
+        return;
+    }
+    hand_on(ends, widths, n, base, k, base + i, v - 1, matches);
 }

@@ -1,4 +1,4 @@
-use Rattle.matching.specs.Handing.{Rising, rise-low, rise-high, handed-new, handed-old, handed-both, HandingAt, handing-start, handing-new, handing-old, handing-next}
+use Rattle.matching.specs.Handing.{Few, few-handed, rise-low, rise-high, HandingAt, handing-start, handing-new, handing-old, handing-next}
 use Prim.Native.Nat.{_+_, _-_, _<_, _≤_}
 use mathlib.Core.Path.{_≡_}
 use lib.ListN.{length}
@@ -12,7 +12,7 @@ use Rattle.matching.proofs.hand.Reads as hand-reads
 use Rattle.matching.proofs.wide.Reads as wide-reads
 
 abbrev Inv-loop : tie.InvT-loop
-Inv-loop ends widths n base k i j matches₀ last stop c₀ d₀ matches c d = (last ≤ base + k) × (stop ≤ n) × (i < c) × (j < d) × (length matches ≡ length matches₀) × HandingAt ends widths base i j matches₀ c d matches
+Inv-loop ends widths n base k i j matches₀ last stop c₀ d₀ matches c d = (last ≤ base + k) × (stop ≤ n) × (i < c) × (j < d) × (length matches ≡ length matches₀) × HandingAt ends widths base i j matches₀ c d matches × Few n matches
 
 abbrev μ-loop : tie.MeasureT-loop
 μ-loop ends widths n base k i j matches₀ last stop c₀ d₀ matches c d = last - c
@@ -42,13 +42,13 @@ add-d : tie.Need-add-d Inv-loop μ-loop
 add-d c = search needs
 
 loop-holds : tie.Need-loop-holds Inv-loop μ-loop
-loop-holds c = (rise-high (c .before .before .before .before .before .before .before .pre .5) (search needs) (search needs) (c .before .before .wide .ensures .0), rise-high (c .before .before .before .before .before .before .before .pre .4) (search needs) (search needs) (c .wide2 .ensures .0), search needs, search needs, search needs, handing-start _ _ _ _ _ _)
+loop-holds c = (rise-high (c .before .before .before .before .before .before .before .pre .5) (search needs) (search needs) (c .before .before .wide .ensures .0), rise-high (c .before .before .before .before .before .before .before .pre .4) (search needs) (search needs) (c .wide2 .ensures .0), search needs, search needs, search needs, handing-start _ _ _ _ _ _, search needs)
 
 same-length : tie.Need-same-length Inv-loop μ-loop
 same-length c = search needs
 
 returns : tie.Need-returns Inv-loop μ-loop
-returns c = handing-old (c .before .before .loop .inv .5) _ (c .before .before .before .wide2 .ensures .0) (search needs)
+returns c = (handing-old (c .before .before .loop .inv .5) _ (c .before .before .before .wide2 .ensures .0) (search needs), search needs)
 
 hand-requires : tie.Need-hand-requires Inv-loop μ-loop
 hand-requires c κs = search needs
@@ -75,13 +75,13 @@ loop-less : tie.Need-loop-less Inv-loop μ-loop
 loop-less c = let x = (rise-low (c .before .before .before .before .before .before .before .before .before .before .before .before .before .before .before .before .before .before .pre .5) (search needs) (search needs) (c .before .before .wide3 .ensures .0)) in search needs
 
 loop-again : tie.Need-loop-again Inv-loop μ-loop
-loop-again c = (search needs, search needs, let x = (rise-low (c .before .before .before .before .before .before .before .before .before .before .before .before .before .before .before .before .before .before .pre .5) (search needs) (search needs) (c .before .before .wide3 .ensures .0)) in search needs, let x = (rise-low (c .before .before .before .before .before .before .before .before .before .before .before .before .before .before .before .before .before .before .pre .4) (search needs) (search needs) (c .wide4 .ensures .0)) in search needs, search needs, handing-next (c .before .before .before .before .before .before .before .before .before .before .loop .inv .5) _ _ _ _ (c .before .before .before .before .before .before .before .before .before .before .before .before .before .wide .ensures .0) (c .before .before .before .before .before .before .before .before .before .before .before .wide2 .ensures .0) (search needs) (search needs) (search needs) (search needs) (rise-low (c .before .before .before .before .before .before .before .before .before .before .before .before .before .before .before .before .before .before .pre .5) (search needs) (search needs) (c .before .before .wide3 .ensures .0)) (rise-low (c .before .before .before .before .before .before .before .before .before .before .before .before .before .before .before .before .before .before .pre .4) (search needs) (search needs) (c .wide4 .ensures .0)) (c .before .before .before .before .before .before .hand .ensures) (c .before .before .wide3 .ensures .0) (c .wide4 .ensures .0))
+loop-again c = (search needs, search needs, let x = (rise-low (c .before .before .before .before .before .before .before .before .before .before .before .before .before .before .before .before .before .before .pre .5) (search needs) (search needs) (c .before .before .wide3 .ensures .0)) in search needs, let x = (rise-low (c .before .before .before .before .before .before .before .before .before .before .before .before .before .before .before .before .before .before .pre .4) (search needs) (search needs) (c .wide4 .ensures .0)) in search needs, search needs, handing-next (c .before .before .before .before .before .before .before .before .before .before .loop .inv .5) _ _ _ _ (c .before .before .before .before .before .before .before .before .before .before .before .before .before .wide .ensures .0) (c .before .before .before .before .before .before .before .before .before .before .before .wide2 .ensures .0) (search needs) (search needs) (search needs) (search needs) (rise-low (c .before .before .before .before .before .before .before .before .before .before .before .before .before .before .before .before .before .before .pre .5) (search needs) (search needs) (c .before .before .wide3 .ensures .0)) (rise-low (c .before .before .before .before .before .before .before .before .before .before .before .before .before .before .before .before .before .before .pre .4) (search needs) (search needs) (c .wide4 .ensures .0)) (c .before .before .before .before .before .before .hand .ensures) (c .before .before .wide3 .ensures .0) (c .wide4 .ensures .0), few-handed (c .before .before .before .before .before .before .before .before .before .before .loop .inv .6) (search needs) (search needs) (c .before .before .before .before .before .before .hand .ensures))
 
 same-length-2 : tie.Need-same-length-2 Inv-loop μ-loop
 same-length-2 c = search needs
 
 returns-2 : tie.Need-returns-2 Inv-loop μ-loop
-returns-2 c = handing-new (c .before .loop .inv .5) _ (c .before .before .before .before .wide .ensures .0) (search needs)
+returns-2 c = (handing-new (c .before .loop .inv .5) _ (c .before .before .before .before .wide .ensures .0) (search needs), search needs)
 
 pub hand-on-spec : {M : Type 1} → statement M
 hand-on-spec =

@@ -1,0 +1,60 @@
+use Rattle.matching.specs.Handing.{few-one}
+use Rattle.matching.specs.Matching.{seeks-void, seeks-full, turned-zero, turned-some}
+use native.Mathlib.Omega.{arith}
+use borrow.Author.Needs.{needs}
+use Rattle.matching.proofs.turn.Statement.{statement}
+use Rattle.matching.proofs.turn.Tie as tie
+use Rattle.matching.proofs.turn.Reads as reads
+use Rattle.matching.proofs.turn.Lts as lts
+use Rattle.matching.proofs.hand_on.Reads as hand-on-reads
+use Rattle.matching.proofs.seek.Reads as seek-reads
+use Rattle.matching.proofs.wide.Reads as wide-reads
+
+seek-requires : tie.Need-seek-requires
+seek-requires c κs = search needs
+
+mul-wide : tie.Need-mul-wide
+mul-wide c = search needs
+
+slice-read-wide : tie.Need-slice-read-wide
+slice-read-wide c = search needs
+
+wide-requires : tie.Need-wide-requires
+wide-requires c κs = search needs
+
+same-length : tie.Need-same-length
+same-length c = search needs
+
+returns : tie.Need-returns
+returns c = (turned-zero _ (c .before .before .before .before .before .seek .ensures .0) (c .before .wide .ensures .0) (search needs), search needs)
+
+add-hand-on : tie.Need-add-hand-on
+add-hand-on c = search needs
+
+sub-hand-on : tie.Need-sub-hand-on
+sub-hand-on c = search needs
+
+hand-on-requires : tie.Need-hand-on-requires
+hand-on-requires c κs = (search needs, search needs, search needs, search needs, search needs, search needs, search needs, search needs, search needs, few-one _ (c .before .before .before .before .before .before .seek .ensures .1) (c .before .before .wide .ensures .0) (search needs), search needs)
+
+same-length-2 : tie.Need-same-length-2
+same-length-2 c = search needs
+
+returns-2 : tie.Need-returns-2
+returns-2 c = (turned-some _ (c .before .before .before .before .before .before .before .before .before .seek .ensures .0) (c .before .before .before .before .before .wide .ensures .0) (search needs) (c .before .before .hand-on .ensures .0), search needs)
+
+pub turn-spec : {M : Type 1} → statement M
+turn-spec =
+    tie.close
+    (tie.spec
+    seek-requires
+    mul-wide
+    slice-read-wide
+    wide-requires
+    same-length
+    returns
+    add-hand-on
+    sub-hand-on
+    hand-on-requires
+    same-length-2
+    returns-2)
