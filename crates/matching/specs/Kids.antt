@@ -20,7 +20,7 @@ back-next (suc x) Forest.nil = refl
 back-next (suc x) (Forest.leaf s a g r) = back-next x r
 back-next (suc x) (Forest.node s M p k r) = back-next x r
 
-back-some : (x : ℕ) (f : Forest) → 1 ≤ size (back x f) → x < trees f
+pub back-some : (x : ℕ) (f : Forest) → 1 ≤ size (back x f) → x < trees f
 back-some zero Forest.nil l = absurd (omega arith)
 back-some zero (Forest.leaf s a g r) l = omega arith
 back-some zero (Forest.node s M p k r) l = omega arith

@@ -4,3 +4,4 @@ pub mod Finding
 pub mod Handing
 pub mod Kids
 pub mod Matching
+pub mod Through

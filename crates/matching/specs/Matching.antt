@@ -65,6 +65,7 @@ pub record Ready (rows w : List ℕ) (n base k : ℕ) (ends widths : List ℕ) (
   pub old-measured : Measured (treeIn rows w n 0) 0 0 ends widths
   pub new-measured : Measured (treeIn rows w k base) base 0 ends widths
   pub started : Started w n T starts
+  pub one-tree : trees (treeIn rows w k base) ≡ 1
 
 -- of the nodes from `base` on, t of the first i are leaves
 pub record Counted (w : List ℕ) (base i t : ℕ) : Type 0 where
@@ -89,15 +90,15 @@ keeps-node (Keeps.full {q = q} {m = m} {t = t} {f = f} hn ho k s ln lo) l = reco
 keeps-node (Keeps.void {q = q} {m = m} {t = t} {f = f} hn ho k zn zo) l = record { parent = q; child = m; token = t; forest = f; node = ho }
 
 -- a node without tokens keeps a slot only below its parent's, at the same place
-record Below (e : Edit) (old new : Forest) (q m a : ℕ) : Type 0 where
-  parent : ℕ
-  keeps : Keeps e old new q parent
-  token : ℕ
-  forest : Forest
-  node : Node old a parent m token forest
-  none : own forest ≡ 0
+pub record Below (e : Edit) (old new : Forest) (q m a : ℕ) : Type 0 where
+  pub parent : ℕ
+  pub keeps : Keeps e old new q parent
+  pub token : ℕ
+  pub forest : Forest
+  pub node : Node old a parent m token forest
+  pub none : own forest ≡ 0
 
-void-below : {e : Edit} {old new : Forest} {a' q m t a : ℕ} {f : Forest} → Node new a' q m t f → own f ≡ 0 → Keeps e old new a' a → Below e old new q m a
+pub void-below : {e : Edit} {old new : Forest} {a' q m t a : ℕ} {f : Forest} → Node new a' q m t f → own f ≡ 0 → Keeps e old new a' a → Below e old new q m a
 void-below h z (Keeps.above x y) = absurd (omega (arith, at-number h .0))
 void-below h z (Keeps.full hn ho k s ln lo) = absurd (omega (arith, ln, ap own (at-one hn h .forest)))
 void-below {e} {old} {new} {a'} {q} {m} {t} {a} h z (Keeps.void {q' = q'} {q = p} {m = c} {t = u} {f = f} hn ho k zn zo) =

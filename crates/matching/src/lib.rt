@@ -7,6 +7,7 @@ ghost use lib.ListN.{length, getD};
 ghost use Rattle.matching.specs.Measure.{treeIn, Built, Measured, Spanned, Gauged};
 ghost use Rattle.matching.specs.Finding.{Started, Found, WasTold, Sourced};
 ghost use Rattle.matching.specs.Matching.{Seeks, Turned};
+ghost use Rattle.matching.specs.Through.{Blank, Matches};
 ghost use Rattle.matching.specs.Handing.{Rising, Few, Handed, HandedAll};
 
 // The index behind a node's subtree, and the number of its tokens.
@@ -274,4 +275,51 @@ fn turn(
         return;
     }
     hand_on(ends, widths, n, base, k, base + i, v - 1, matches);
+}
+
+// Goes through the k new nodes; the root first.
+fn go_through(
+    nodes: &[u8],
+    n: usize,
+    base: usize,
+    k: usize,
+    ends: &[u16],
+    widths: &[u16],
+    starts: &[u16],
+    tokens: usize,
+    place: usize,
+    removed: usize,
+    inserted: usize,
+    matches: &mut [u16],
+)
+    requires { ⌜ (1 ≤ n) × (1 ≤ k) × (n ≤ base) × (base + k ≤ 65535) × (base + k ≤ length (now ends)) × (base + k ≤ length (now widths)) × (k ≤ length (now matches)) × (tokens < length (now starts)) × Started (now nodes) n tokens (now starts) × (place ≤ 65535) × (removed ≤ 65535) × (inserted ≤ 65535) × Rising (now ends) 0 n × Rising (now ends) base (base + k) × Blank (now matches) ⌝ }
+    ensures { λ _. ⌜ Matches (now (nodes .entry)) n base k (now (ends .entry)) (now (widths .entry)) tokens (now (starts .entry)) place removed inserted (now (matches .exit)) × Few n (now (matches .exit)) ⌝ }
+{
+    hand(widths, base, 0, base, matches);
+    let mut i: usize = 0;
+    let mut t: usize = 0;
+    while i < k {
+        let y = base + i;
+        turn(
+            nodes,
+            n,
+            base,
+            k,
+            ends,
+            widths,
+            starts,
+            tokens,
+            place,
+            removed,
+            inserted,
+            i,
+            t,
+            matches,
+        );
+        i += 1;
+        if trees::production_of(nodes, y) != 0 {
+            continue;
+        }
+        t += 1;
+    }
 }
