@@ -213,6 +213,21 @@ module _ {F : Forest} {base i : ℕ} {whole : Forest} {m c : ℕ} {rest : Forest
               rw (q, r) at (at-next pass-here y);
         }
 
+-- the index behind a node is behind it, and within the list
+pub measured-end : (rows w : List ℕ) (n base : ℕ) {ends widths : List ℕ} → Measured (treeIn rows w n base) base 0 ends widths → (y : ℕ) → base ≤ y → y < base + n → (y < getD ends y 0) × (getD ends y 0 ≤ base + n)
+measured-end rows w n base h y l k =
+    let o : Numbered 1 0 0 0 (treeIn rows w n base) (suc y - base) = at-node (treeIn rows w n base) (suc y - base) (omega arith) (omega (arith, built-size rows w n base)) in
+    let e = h .end y (o .node) (omega arith) (omega arith) in
+    let x = at-within (o .node) in
+    let z = tree-few (o .forest) in
+    let s = some-tree (o .forest) (at-some (o .node)) in
+    (omega arith, omega (arith, built-size rows w n base))
+  where
+    some-tree : (f : Forest) → 1 ≤ size f → 1 ≤ treeSize f
+    some-tree Forest.nil l = l
+    some-tree (Forest.leaf s x g r) l = omega arith
+    some-tree (Forest.node s M p k r) l = omega arith
+
 -- the same where there are k children, and `width` tokens were met
 pub record Hopping (F : Forest) (base i k m c width : ℕ) : Type 0 where
   pub parent : ℕ

@@ -12,9 +12,9 @@ use Rattle.trees.specs.Nodes.{trees, back}
 use Rattle.trees.specs.Coded.{nodeAt}
 use Rattle.edits.specs.Keeping.{Edit, own, At, Node, Keeps}
 use Rattle.edits.specs.Places.{at-number, at-some, at-below-parent, at-one, at-child, Side, Parent, at-up, Numbered, at-node}
-use Rattle.matching.specs.Measure.{treeIn, built-size}
-use Rattle.matching.specs.Finding.{leafOf, leavesTo, leaves-next, Numbers}
-use Rattle.matching.specs.Handing.{Few, Handed}
+use Rattle.matching.specs.Measure.{treeIn, Built, built-size, Measured, measured-end, Gauged, measured-kept}
+use Rattle.matching.specs.Finding.{leafOf, leavesTo, leaves-next, Started, Numbers}
+use Rattle.matching.specs.Handing.{Rising, Few, Handed}
 use Rattle.matching.specs.Kids.{back-some}
 use Rattle.matching.specs.Matching.{Matched, Status, Ready, Counted, KeepsOne, Turned, void-below, status-turn}
 
@@ -158,3 +158,34 @@ through-end {w} {n} {base} {k} h l =
           let d : Numbered 1 0 0 0 (treeIn rows w k base) (suc y) = at-node (treeIn rows w k base) (suc y) (omega arith) (omega (arith, built-size rows w k base)) in
           h .status rows e r s one .done (suc y) (d .parent) (d .child) (d .token) y (d .forest) (d .node) refl (omega arith);
     }
+
+-- ---- from the beginning
+
+-- for each new node the old one whose slot it keeps
+pub record Matching (rows w : List ℕ) (n base k place removed inserted : ℕ) (ms : List ℕ) : Type 0 where
+  pub matched : (e : Edit) → Numbers e place removed inserted → KeepsOne e (treeIn rows w n 0) (treeIn rows w k base) → (i : ℕ) → i < k
+      → Matched e (treeIn rows w n 0) (treeIn rows w k base) (suc i) (getD ms i 0)
+
+pub rising-new : (rows w : List ℕ) (n base : ℕ) {ends₀ widths₀ ends widths : List ℕ} → Gauged (treeIn rows w n base) base 0 ends₀ widths₀ ends widths → Rising ends base (base + n)
+rising-new rows w n base g =
+    record { low = λ y l k. measured-end rows w n base (g .measured) y l k .0; high = λ y l k. measured-end rows w n base (g .measured) y l k .1 }
+
+-- the old tree's list begins at 0 and ends before the new one's
+module _ (rows w : List ℕ) (n base k : ℕ) {ends₀ widths₀ ends₁ widths₁ ends widths : List ℕ} (g : Gauged (treeIn rows w n 0) 0 0 ends₀ widths₀ ends₁ widths₁)
+    (h : Gauged (treeIn rows w k base) base 0 ends₁ widths₁ ends widths) (l : n ≤ base) where
+  old-measured : Measured (treeIn rows w n 0) 0 0 ends widths
+  old-measured = measured-kept (g .measured) h (omega (arith, built-size rows w n 0))
+
+  pub rising-old : Rising ends 0 n
+  rising-old =
+      record {
+        low = λ y a b. measured-end rows w n 0 old-measured y a (omega arith) .0;
+        high = λ y a b. let x = measured-end rows w n 0 old-measured y a (omega arith) .1 in omega arith;
+      }
+
+  pub matched-all : {T : ℕ} {starts ms : List ℕ} {place removed inserted : ℕ} → Built rows w n 0 → Built rows w k base → trees (treeIn rows w k base) ≡ 1 → Started w n T starts
+      → Matches w n base k ends widths T starts place removed inserted ms → Matching rows w n base k place removed inserted ms
+  matched-all {T} {starts} b c d s m =
+      let r : Ready rows w n base k ends widths T starts =
+      record { old-built = b; new-built = c; old-measured = old-measured; new-measured = h .measured; started = s; one-tree = d } in
+      record { matched = λ e u one. m .matched rows e r u one }

@@ -7,7 +7,8 @@ ghost use lib.ListN.{length, getD};
 ghost use Rattle.matching.specs.Measure.{treeIn, Built, Measured, Spanned, Gauged};
 ghost use Rattle.matching.specs.Finding.{Started, Found, WasTold, Sourced};
 ghost use Rattle.matching.specs.Matching.{Seeks, Turned};
-ghost use Rattle.matching.specs.Through.{Blank, Matches};
+ghost use Rattle.matching.specs.Through.{Blank, Matches, Matching};
+ghost use Rattle.trees.specs.Nodes.{trees};
 ghost use Rattle.matching.specs.Handing.{Rising, Few, Handed, HandedAll};
 
 // The index behind a node's subtree, and the number of its tokens.
@@ -322,4 +323,41 @@ fn go_through(
         }
         t += 1;
     }
+}
+
+// For each of the k new nodes 1 + the index of the old node whose slot it keeps, or 0. The old tree's n nodes stand first and the new tree's from `base` on.
+pub fn match_nodes(
+    nodes: &[u8],
+    n: usize,
+    base: usize,
+    k: usize,
+    rows: &[u8],
+    place: usize,
+    removed: usize,
+    inserted: usize,
+    ends: &mut [u16],
+    widths: &mut [u16],
+    starts: &mut [u16],
+    matches: &mut [u16],
+)
+    requires { ⌜ Built (now rows) (now nodes) n 0 × Built (now rows) (now nodes) k base × (trees (treeIn (now rows) (now nodes) k base) ≡ 1) × (1 ≤ n) × (1 ≤ k) × (n ≤ base) × (base + k ≤ 65535) × (base + k ≤ length (now ends)) × (base + k ≤ length (now widths)) × (n < length (now starts)) × (getD (now starts) 0 0 ≡ 0) × (k ≤ length (now matches)) × Blank (now matches) × (place ≤ 65535) × (removed ≤ 65535) × (inserted ≤ 65535) ⌝ }
+    ensures { λ _. ⌜ Matching (now (rows .entry)) (now (nodes .entry)) n base k place removed inserted (now (matches .exit)) × Few n (now (matches .exit)) ⌝ }
+{
+    measure(nodes, 0, n, rows, ends, widths);
+    measure(nodes, base, k, rows, ends, widths);
+    let tokens = mark_starts(nodes, n, starts);
+    go_through(
+        nodes,
+        n,
+        base,
+        k,
+        ends,
+        widths,
+        starts,
+        tokens,
+        place,
+        removed,
+        inserted,
+        matches,
+    );
 }
