@@ -125,7 +125,6 @@ module _ {G : Grammar} {S : ℕ} {b : List ℕ} where
 
   pub valid-few : (v : Valid G S b) → length (preorder (v .tree)) ≤ S
   valid-few v = let q = slots-preorder (v .tree) in omega (arith, pigeon S (slots (v .tree)) (v .area .within) (v .area .once), length-slots (v .tree), size-preorder (v .tree))
-      length-slots (Forest.node s M p k r) = omega (arith, length-append (slots k) (slots r), length-slots k, length-slots r)
 
   pub valid-header : (v : Valid G S b) → Header b (top (v .tree)) (size (v .tree)) (length (yield (v .tree)))
   valid-header v =
