@@ -8,11 +8,14 @@ use lib.Seq.{getD-append-add}
 use native.Mathlib.Decide.{decLt}
 use native.Mathlib.Omega.{arith}
 use Rattle.grammar.specs.Each.{Each, each-head, each-tail}
-use Rattle.grammar.specs.Forest.{Forest, size}
+use Rattle.grammar.specs.Grammar.{Grammar}
+use Rattle.grammar.specs.Prediction.{Prepared}
+use Rattle.grammar.specs.Forest.{Forest, size, Derives}
 use Rattle.trees.specs.Area.{top, slots, Distinct, Area}
 use Rattle.trees.specs.Members.{each-mem, mem-each, mem-get, distinct-get, distinct-head, distinct-tail, covers}
 use Rattle.trees.specs.Spread.{length-slots}
-use Rattle.edits.specs.Keeping.{Edit, At, Keeps, Holds, Holding, Given, keptOf, madeOf}
+use Rattle.edits.specs.Keeping.{Edit, At, Holds, Holding, Given, keptOf, madeOf}
+use Rattle.edits.specs.One.{keeps-apart}
 
 -- ---- a node's slot is the one at its place
 
@@ -127,10 +130,10 @@ module _ {e : Edit} {old new : Forest} where
       let o : 1 ≤ getD hs (p .0) 0 = omega (arith, q .1, p .2) in
       Memᴰ·cast (p .2) (holds-among (h .each (p .0) (omega (arith, p .1, h .long))) o)
 
-  -- where no slot of the old tree stands twice and no two nodes keep the same one, none is held twice
-  module _ (keeps-apart : (a b s : ℕ) → Keeps e old new a s → Keeps e old new b s → a ≡ b) where
+  -- none is held twice
+  module _ {G : Grammar} (g : Prepared G) (dn : Derives G (G .start ∷ []) new) where
     holds-apart : {a b x y : ℕ} → Distinct (slots old) → Holds e old new a x → Holds e old new b y → 1 ≤ x → x ≡ y → a ≡ b
-    holds-apart {a} {b} d (Holds.keeps {a = s} k n) (Holds.keeps k' n') l q = let z = slot-apart d (at-slot n) (at-slot n') q in keeps-apart a b s k (rw (← z) at k')
+    holds-apart d (Holds.keeps k n) (Holds.keeps k' n') l q = let z = slot-apart d (at-slot n) (at-slot n') q in keeps-apart g dn k (rw (← z) at k')
     holds-apart d (Holds.keeps k n) (Holds.makes f) l q = absurd (omega arith)
     holds-apart d (Holds.makes f) h l q = absurd (omega arith)
 
@@ -138,7 +141,7 @@ module _ {e : Edit} {old new : Forest} where
     holding-held {S} {b} {hs} a h =
         record {
           once = held-once hs (λ i j l m o q.
-              let z = holds-apart (a .once) (h .each i (omega (arith, h .long))) (h .each j (omega (arith, h .long))) o q in omega arith);
+          let z = holds-apart (a .once) (h .each i (omega (arith, h .long))) (h .each j (omega (arith, h .long))) o q in omega arith);
           within = mem-each (heldOf hs) (λ x m. each-mem (slots old) (a .within) (holding-among h m));
         }
 

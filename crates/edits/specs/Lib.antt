@@ -1,6 +1,20 @@
 -- Meaning: which slots an edit keeps.
 pub mod Keeping
--- Laws: the slots of the new tree; the counts; one new tree.
+-- The nodes of a forest by number.
+pub mod Places
+-- Derivation trees and the lookaheads at their nodes.
+pub mod Guided
+-- At most one node of a symbol starts with a token.
+pub mod Stems
+-- A new node keeps one slot at most, and a slot is kept by one at most.
+pub mod One
+-- The two trees of an edit, and what their sentences share.
+pub mod Edited
+-- A kept node has the same symbol and production in both trees.
+pub mod Productions
+-- The slots of the new tree: given in one way only, and enough of them.
 pub mod Giving
+-- The kept nodes and those given up are the old tree's.
 pub mod Counts
+-- An edit has one new tree and one set of counts.
 pub mod Uniqueness

@@ -86,20 +86,20 @@ module _ {G : Grammar} {S : ℕ} where
 
 module _ {G : Grammar} where
   -- what a string that begins with M's left context and ends with a forest's symbols says of FOLLOW(M)
-  follows : (α : List ℕ) {M : ℕ} {ys : List ℕ} (w : List Token) → Each (Terminal G) (kinds w) → Steps G (G .start ∷ []) (α ++ M ∷ ys) → Steps G ys (kinds w)
+  pub follows : (α : List ℕ) {M : ℕ} {ys : List ℕ} (w : List Token) → Each (Terminal G) (kinds w) → Steps G (G .start ∷ []) (α ++ M ∷ ys) → Steps G ys (kinds w)
       → Follow G M (ahead w)
   follows α {M} [] t s d =
       ending α (trans s (simp (append-assoc, append-nil) at (steps-in (α ++ M ∷ []) [] d)))
   follows α {M} (k ∷ w) (Each.cons h t) s d =
       inside α (kinds w) h (trans s (simp (append-assoc, append-nil) at (steps-in (α ++ M ∷ []) [] d)))
 
-  terminals : {xs : List ℕ} {f : Forest} → Derives G xs f → Each (Terminal G) (kinds (yield f))
+  pub terminals : {xs : List ℕ} {f : Forest} → Derives G xs f → Each (Terminal G) (kinds (yield f))
   terminals Derives.nil = Each.nil
   terminals (Derives.leaf t d) = Each.cons t (terminals d)
   terminals (Derives.node {k = k} {r = f} r e d) = rw (kinds-append (yield k) (yield f)) (each-join (terminals e) (terminals d))
 
   -- a production is predicted by what its children begin with, or by what follows
-  predicted : {M p : ℕ} {γ : List ℕ} (u : List Token) {a : ℕ} → Rule G p M γ → Each (Terminal G) (kinds u) → Steps G γ (kinds u) → Follow G M a
+  pub predicted : {M p : ℕ} {γ : List ℕ} (u : List Token) {a : ℕ} → Rule G p M γ → Each (Terminal G) (kinds u) → Steps G γ (kinds u) → Follow G M a
       → Predicts G M (front u a) p
   predicted [] r t s f = by-follow r s f
   predicted (k ∷ u) r (Each.cons h t) s f = by-first r (h, (kinds u, s))
