@@ -46,7 +46,7 @@ put-filled w w' src i s x p g e b u =
     let g' : get32 w' (nodeSize * i + 4) ≡ g = omega arith in
     record { long = h .long; node = cc; before = h .before; behind = h .behind }
 
-node-kept : (w w' : List ℕ) (i : ℕ) → ((j : ℕ) → nodeSize * i ≤ j → j < nodeSize * (i + 1) → byteAt w' j ≡ byteAt w j) → nodeAt w' i ≡ nodeAt w i
+pub node-kept : (w w' : List ℕ) (i : ℕ) → ((j : ℕ) → nodeSize * i ≤ j → j < nodeSize * (i + 1) → byteAt w' j ≡ byteAt w j) → nodeAt w' i ≡ nodeAt w i
 unfolding nodeAt
 node-kept w w' i h =
     let a0 = h (nodeSize * i) (omega arith) (omega arith) in

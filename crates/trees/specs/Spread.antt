@@ -16,6 +16,10 @@ abbrev pub slotsOf : List Node → List ℕ
 slotsOf [] = []
 slotsOf (e ∷ es) = e .slot ∷ slotsOf es
 
+pub slots-append : (es fs : List Node) → slotsOf (es ++ fs) ≡ slotsOf es ++ slotsOf fs
+slots-append [] fs = refl
+slots-append (e ∷ es) fs = ap (λ (l : List ℕ). e .slot ∷ l) (slots-append es fs)
+
 -- the nodes' slots are among 1..S, each once
 pub record Spread (S : ℕ) (es : List Node) : Type 0 where
   pub once : Distinct (slotsOf es)

@@ -1,6 +1,6 @@
 -- The slots of a list of nodes: a mark for each, so that none stands twice.
 use Prim.Native.Nat.{ℕ, _<_}
-use mathlib.Core.Path.{_≡_, refl, sym, ap, _∙_}
+use mathlib.Core.Path.{_≡_, sym, ap, _∙_}
 use mathlib.Core.Logic.{⊎-elim, by-cases}
 use mathlib.Core.List.{List, [], _∷_, _++_, List·Memᴰ, List·Memᴰ·head, List·Memᴰ·tail, List·Memᴰ·not-nil, List·Memᴰ·cases-cons, List·Memᴰ·append-cases, List·Memᴰ·eq-of-singleton, Memᴰ·append-left, Memᴰ·append-right}
 use lib.ListN.{length, set}
@@ -11,14 +11,7 @@ use Rattle.base.specs.Bytes.{byteAt}
 use Rattle.base.specs.Blocks.{zeros, byte-zeros}
 use Rattle.trees.specs.Area.{Distinct}
 use Rattle.trees.specs.Nodes.{Node}
-
-abbrev pub slotsOf : List Node → List ℕ
-slotsOf [] = []
-slotsOf (e ∷ es) = e .slot ∷ slotsOf es
-
-pub slots-append : (es fs : List Node) → slotsOf (es ++ fs) ≡ slotsOf es ++ slotsOf fs
-slots-append [] fs = refl
-slots-append (e ∷ es) fs = ap (λ (l : List ℕ). e .slot ∷ l) (slots-append es fs)
+use Rattle.trees.specs.Spread.{slotsOf, slots-append}
 
 -- ---- different numbers
 

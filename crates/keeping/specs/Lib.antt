@@ -1,0 +1,5 @@
+-- The slots that the new nodes hold, and their marks.
+pub mod Matched
+pub mod Marking
+-- The other nodes get theirs: the lowest free slot, one node, all of them.
+pub mod Filling
