@@ -141,7 +141,7 @@ module _ {e : Edit} {old new : Forest} where
     holding-held {S} {b} {hs} a h =
         record {
           once = held-once hs (λ i j l m o q.
-          let z = holds-apart (a .once) (h .each i (omega (arith, h .long))) (h .each j (omega (arith, h .long))) o q in omega arith);
+              let z = holds-apart (a .once) (h .each i (omega (arith, h .long))) (h .each j (omega (arith, h .long))) o q in omega arith);
           within = mem-each (heldOf hs) (λ x m. each-mem (slots old) (a .within) (holding-among h m));
         }
 

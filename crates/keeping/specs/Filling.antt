@@ -1,7 +1,7 @@
 -- New nodes get the lowest slots that are not marked: one slot, one node, and the nodes of the new tree one after the other.
-use Prim.Native.Nat.{ℕ, zero, suc, _+_, _-_, _*_, _≤_, _<_}
-use mathlib.Core.Path.{_≡_, refl, sym, ap, _∙_}
-use mathlib.Core.Logic.{_⊎_, inl, inr, ⊎-elim, by-cases}
+use Prim.Native.Nat.{ℕ, suc, _+_, _-_, _*_, _≤_, _<_}
+use mathlib.Core.Path.{_≡_, refl, ap, _∙_}
+use mathlib.Core.Logic.{⊎-elim, by-cases}
 use mathlib.Core.List.{List, [], _∷_, _++_, List·Memᴰ, append-assoc, append-nil}
 use lib.ListN.{length, getD}
 use native.Mathlib.Decide.{decLt}
@@ -10,12 +10,11 @@ use Rattle.base.specs.Bytes.{byteAt}
 use Rattle.trees.specs.Coded.{nodeSize, nodeAt, nodesFrom}
 use Rattle.trees.specs.Listing.{inSlot, Put, put-other, node-kept, nodes-kept, nodes-last}
 use Rattle.trees.specs.Members.{each-mem, member}
-use Rattle.trees.specs.Nodes.{Node}
 use Rattle.trees.specs.Spread.{slotsOf, slots-append}
 use Rattle.edits.specs.Keeping.{Given}
 use Rattle.edits.specs.Giving.{heldOf, Held, held-in, in-held}
-use Rattle.keeping.specs.Matched.{slotBy, heldFrom, slot-kept, held-next}
-use Rattle.keeping.specs.Marking.{Marked}
+use Rattle.keeping.specs.Matched.{slotBy, heldFrom, Fit, slot-kept, held-next}
+use Rattle.keeping.specs.Marking.{Marked, Marks}
 
 -- ---- the lowest free slot
 
@@ -57,10 +56,14 @@ pub record Got (m : List ℕ) (S s h : ℕ) (w : List ℕ) (a : ℕ) (w' : List 
   pub put : Put w a (inSlot slot (nodeAt w a)) w'
 
 pub got-kept : {m w w' : List ℕ} {S s h a : ℕ} → (h ≡ 0 → ⊥) → Put w a (inSlot h (nodeAt w a)) w' → Got m S s h w a w' s
-got-kept {h = h} n p = record { slot = h; gets = Gets.kept (omega arith); put = p }
+got-kept {h = h} n p = record { slot = h; gets = Gets.kept {h = h} (omega arith); put = p }
 
 pub got-made : {m w w' : List ℕ} {S s h a x : ℕ} → h ≡ 0 → Lowest m S s x → Put w a (inSlot x (nodeAt w a)) w' → Got m S s h w a w' (x + 1)
 got-made {x = x} e l p = record { slot = x; gets = Gets.made e l refl; put = p }
+
+gets-some : {m : List ℕ} {S s h x s' : ℕ} → 1 ≤ s → Gets m S s h x s' → 1 ≤ s'
+gets-some o (Gets.kept l) = o
+gets-some o (Gets.made e l q) = omega arith
 
 -- it is as the rule says
 gets-given : {m hs rest ss : List ℕ} {S s h x s' : ℕ} → Marked m hs → Held S hs → Gets m S s h x s' → 1 ≤ s → Given hs s' rest ss → Given hs s (h ∷ rest) (x ∷ ss)
@@ -113,25 +116,21 @@ giving-none w ms base k =
 pub giving-holds : {w ms w' : List ℕ} {base k i s : ℕ} (h : ℕ) → Giving w ms base k w' i s → getD ms i 0 ≤ base → h ≡ slotBy w' (getD ms i 0) → h ≡ slotBy w (getD ms i 0)
 giving-holds {w} {ms} {w'} {base} {i = i} h g l e = e ∙ slot-kept w w' base (getD ms i 0) (g .before) l
 
-pub giving-more : {S : ℕ} {w ms w' w'' m : List ℕ} {base k i s s' h : ℕ} → Marked m (heldFrom w ms k 0) → Held S (heldFrom w ms k 0) → i < k → h ≡ slotBy w (getD ms i 0)
+pub giving-more : {S : ℕ} {w ms w' w'' m : List ℕ} {base k i s s' h : ℕ} → Marks w ms k m → Fit S w ms k → i < k → h ≡ slotBy w (getD ms i 0)
     → Got m S s h w' (base + i) w'' s' → Giving w ms base k w' i s → Giving w ms base k w'' (i + 1) s'
 giving-more {S} {w} {ms} {w'} {w''} {m} {base} {k} {i} {s} {s'} {h} mk d l e u g =
     record {
       long = u .put .long ∙ g .long;
-      some = cursor (u .gets);
+      some = gets-some (g .some) (u .gets);
       given = λ ss z.
           let hs : List ℕ = heldFrom w ms k 0 in
-          let y : Given hs s (heldFrom w ms (k - i) i) (u .slot ∷ ss) = rw (held-next w ms k i l, ← e) (gets-given mk d (u .gets) (g .some) z) in
+          let y : Given hs s (heldFrom w ms (k - i) i) (u .slot ∷ ss) = rw (held-next w ms k i l, ← e) (gets-given (mk .marked) (d .held) (u .gets) (g .some) z) in
           rw (more, append-assoc (slotsOf (nodesFrom w' i base)) (u .slot ∷ []) ss) (g .given (u .slot ∷ ss) y);
       fields = λ x b. by-cases (decLt x i) (λ c. earlier x c) (λ c. let q : x ≡ i = omega arith in rw q here);
       before = λ j b. u .put .before j (omega arith) ∙ g .before j b;
       behind = λ j b. u .put .behind j (omega arith) ∙ g .behind j (omega arith);
     }
   where
-    cursor : {x : ℕ} → Gets m S s h x s' → 1 ≤ s'
-    cursor (Gets.kept l) = g .some
-    cursor (Gets.made e l q) = omega arith
-
     more : slotsOf (nodesFrom w'' (i + 1) base) ≡ slotsOf (nodesFrom w' i base) ++ (u .slot ∷ [])
     more =
         let a = nodes-last w'' i base in

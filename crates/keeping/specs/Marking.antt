@@ -71,34 +71,36 @@ marked-more m hs (suc h) l k =
 
 -- ---- the first k of the new nodes
 
--- the slots that they hold are marked, and so many are kept
-pub record Marks (w ms : List ℕ) (k : ℕ) (m : List ℕ) (kept : ℕ) : Type 0 where
+-- the slots that they hold are marked
+pub record Marks (w ms : List ℕ) (k : ℕ) (m : List ℕ) : Type 0 where
   pub marked : Marked m (heldFrom w ms k 0)
+
+-- so many are kept
+pub record Keeps (w ms : List ℕ) (k kept : ℕ) : Type 0 where
   pub count : kept ≡ keptOf (heldFrom w ms k 0)
   pub few : kept ≤ k
 
-pub marks-none : (w ms m : List ℕ) (n : ℕ) → m ≡ zeros n → Marks w ms 0 m 0
+pub marks-none : (w ms m : List ℕ) (n : ℕ) → m ≡ zeros n → Marks w ms 0 m
 marks-none w ms m n e =
-    record {
-      marked = record { held = λ s x. absurd (List·Memᴰ·not-nil x); free = λ s x. ap (λ (u : List ℕ). byteAt u s) e ∙ byte-zeros n s };
-      count = refl;
-      few = omega arith;
-    }
+    record { marked = record { held = λ s x. absurd (List·Memᴰ·not-nil x); free = λ s x. ap (λ (u : List ℕ). byteAt u s) e ∙ byte-zeros n s } }
 
-pub marks-more : (w ms : List ℕ) (i : ℕ) (m m' : List ℕ) (h kept x : ℕ) → h ≡ slotBy w (getD ms i 0) → h < length m → m' ≡ mark m h → x ≡ keptOf (h ∷ []) → Marks w ms i m kept
-    → Marks w ms (i + 1) m' (kept + x)
-marks-more w ms i m m' h kept x e l f g k =
-    let q : heldFrom w ms (i + 1) 0 ≡ heldFrom w ms i 0 ++ (h ∷ []) =
-    held-last w ms i 0 ∙ ap (λ (j : ℕ). heldFrom w ms i 0 ++ (slotBy w (getD ms j 0) ∷ [])) (omega arith) ∙ ap (λ (s : ℕ). heldFrom w ms i 0 ++ (s ∷ [])) (sym e) in
-    record {
-      marked = rw (q, f) (marked-more m (heldFrom w ms i 0) h l (k .marked));
-      count = rw (q, kept-append (heldFrom w ms i 0) h) (omega (arith, k .count, g));
-      few = omega (arith, k .few, one h g);
-    }
-  where
-    one : (h : ℕ) → x ≡ keptOf (h ∷ []) → x ≤ 1
-    one zero g = omega arith
-    one (suc h) g = omega arith
+pub keeps-none : (w ms : List ℕ) → Keeps w ms 0 0
+keeps-none w ms = record { count = refl; few = omega arith }
 
-pub marks-all : (w ms : List ℕ) (k i : ℕ) (m : List ℕ) (kept : ℕ) → k ≤ i → i ≤ k → Marks w ms i m kept → Marks w ms k m kept
-marks-all w ms k i m kept l l' h = let q : i ≡ k = omega arith in rw q at h
+module _ (w ms : List ℕ) (i h : ℕ) (e : h ≡ slotBy w (getD ms i 0)) where
+  more : heldFrom w ms (i + 1) 0 ≡ heldFrom w ms i 0 ++ (h ∷ [])
+  more =
+      held-last w ms i 0 ∙ ap (λ (j : ℕ). heldFrom w ms i 0 ++ (slotBy w (getD ms j 0) ∷ [])) (omega arith) ∙ ap (λ (s : ℕ). heldFrom w ms i 0 ++ (s ∷ [])) (sym e)
+
+  pub marks-more : {m m' : List ℕ} → h < length m → m' ≡ mark m h → Marks w ms i m → Marks w ms (i + 1) m'
+  marks-more {m} l f k = record { marked = rw (more, f) (marked-more m (heldFrom w ms i 0) h l (k .marked)) }
+
+  pub keeps-more : {kept x : ℕ} → x ≡ keptOf (h ∷ []) → x ≤ 1 → Keeps w ms i kept → Keeps w ms (i + 1) (kept + x)
+  keeps-more g l k = record { count = rw (more, kept-append (heldFrom w ms i 0) h) (omega (arith, k .count, g)); few = omega (arith, k .few) }
+
+module _ {w ms : List ℕ} {k i : ℕ} (l : k ≤ i) (l' : i ≤ k) where
+  pub marks-all : {m : List ℕ} → Marks w ms i m → Marks w ms k m
+  marks-all h = let q : i ≡ k = omega arith in rw q at h
+
+  pub keeps-all : {kept : ℕ} → Keeps w ms i kept → Keeps w ms k kept
+  keeps-all h = let q : i ≡ k = omega arith in rw q at h

@@ -1,6 +1,6 @@
 -- Which slot each node of the new tree holds: that of the old node with which it is matched.
-use Prim.Native.Nat.{ℕ, zero, suc, _+_, _-_, _≤_, _<_}
-use mathlib.Core.Path.{_≡_, refl, sym, ap, _∙_}
+use Prim.Native.Nat.{ℕ, zero, suc, _+_, _-_, _*_, _≤_, _<_}
+use mathlib.Core.Path.{_≡_, refl, ap, _∙_}
 use mathlib.Core.List.{List, [], _∷_, _++_}
 use lib.ListN.{length, getD}
 use native.Mathlib.Omega.{arith}
@@ -20,6 +20,10 @@ slotBy w (suc a) = nodeAt w a .slot
 abbrev pub heldFrom : List ℕ → List ℕ → ℕ → ℕ → List ℕ
 heldFrom w ms zero i = []
 heldFrom w ms (suc k) i = slotBy w (getD ms i 0) ∷ heldFrom w ms k (i + 1)
+
+-- each of the k new nodes is matched with one of the nodes before node `base`, or with none
+pub record Old (base k : ℕ) (ms : List ℕ) : Type 0 where
+  pub each : (i : ℕ) → i < k → getD ms i 0 ≤ base
 
 pub slot-none : (w : List ℕ) (m : ℕ) → m ≡ 0 → 0 ≡ slotBy w m
 unfolding slotBy
@@ -55,13 +59,16 @@ held-last w ms (suc k) i =
 pub held-next : (w ms : List ℕ) (k i : ℕ) → i < k → heldFrom w ms (k - i) i ≡ slotBy w (getD ms i 0) ∷ heldFrom w ms (k - (i + 1)) (i + 1)
 held-next w ms k i l = let q : k - i ≡ suc (k - (i + 1)) = omega arith in rw q
 
--- a slot that is held is one of 1..S
-pub held-few : {S : ℕ} (w ms : List ℕ) (k i : ℕ) → Held S (heldFrom w ms k 0) → i < k → slotBy w (getD ms i 0) ≤ S
-held-few {S} w ms k i h l = go (slotBy w (getD ms i 0)) (held-get w ms k 0 i l ∙ ap (λ (x : ℕ). slotBy w (getD ms x 0)) (omega arith))
+-- the slots that the k new nodes hold are among 1..S, each once
+pub record Fit (S : ℕ) (w ms : List ℕ) (k : ℕ) : Type 0 where
+  pub held : Held S (heldFrom w ms k 0)
+
+pub fit-few : {S k : ℕ} {w ms : List ℕ} (i : ℕ) → Fit S w ms k → i < k → slotBy w (getD ms i 0) ≤ S
+fit-few {S} {k} {w} {ms} i h l = go (slotBy w (getD ms i 0)) (held-get w ms k 0 i l ∙ ap (λ (x : ℕ). slotBy w (getD ms x 0)) (omega arith))
   where
     go : (x : ℕ) → getD (heldFrom w ms k 0) i 0 ≡ x → x ≤ S
     go zero e = omega arith
     go (suc x) e =
         let m = mem-get (heldFrom w ms k 0) i (omega (arith, length-from w ms k 0)) in
-        let z = each-mem (heldOf (heldFrom w ms k 0)) (h .within) (in-held (heldFrom w ms k 0) m (omega arith)) in
+        let z = each-mem (heldOf (heldFrom w ms k 0)) (h .held .within) (in-held (heldFrom w ms k 0) m (omega arith)) in
         omega (arith, z .1)
