@@ -18,3 +18,9 @@ pub mod Before
 pub mod After
 -- What the tree area keeps of a subtree that is carried along.
 pub mod Untouched
+-- The slots of the new tree: given in one way only, and enough of them.
+pub mod Giving
+-- The kept nodes and those given up are the old tree's.
+pub mod Counts
+-- An edit has one new tree and one set of counts.
+pub mod Uniqueness

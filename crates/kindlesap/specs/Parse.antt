@@ -1,8 +1,8 @@
 -- Meaning: what parse does, for every input; and that it can do nothing else.
 use Prim.Native.Nat.{ℕ, zero, suc, _+_, _*_, _≤_, _<_}
 use mathlib.Core.Path.{_≡_, refl, ap, sym, _∙_, subst}
-use mathlib.Core.List.{List, [], _∷_, _++_}
-use lib.ListN.{length, length-append}
+use mathlib.Core.List.{List, [], _∷_}
+use lib.ListN.{length}
 use native.Mathlib.Omega.{arith}
 use Rattle.base.specs.Blocks.{copied, zeros}
 use Rattle.base.specs.Choose.{never}
@@ -15,6 +15,7 @@ use Rattle.trees.specs.AreaOne.{area-one}
 use Rattle.plain.specs.Plain.{Verdict, accepted, syntax, noRoom, Parses}
 use Rattle.plain.specs.One.{runs-one}
 use Rattle.plain.specs.Traced.{Same}
+use Rattle.plain.specs.Alike.{same-slots, same-size}
 use Rattle.plain.specs.Exactly.{accepted-exactly, tree-one}
 use Rattle.plain.specs.Tokens.{Sentence, BadToken, sentence-one, bad-not-sentence, bad-token-one}
 use Rattle.replies.specs.Reply.{replyBytes}
@@ -78,40 +79,6 @@ pub record ParseCalled (image tables tokens tree work b tree' work' b' : List �
 
 sized-one : {S S' : ℕ} {b : List ℕ} → Sized S b → Sized S' b → S ≡ S'
 sized-one h k = let e = h .long in let f = k .long in omega arith
-
--- forests that differ in slots only, and not in slots, are equal
-same-slots : {f g : Forest} → Same f g → slots f ≡ slots g → f ≡ g
-same-slots Same.nil e = refl
-same-slots (Same.leaf {s = s} {s' = s'} {x = x} {g = g} {r = r} {r' = r'} h) e =
-    let q : s ≡ s' = cc in
-    let z : slots r ≡ slots r' = cc in
-    rw (q, same-slots h z)
-same-slots (Same.node {s = s} {s' = s'} {M = M} {p = p} {k = k} {k' = k'} {r = r} {r' = r'} h j) e =
-    let q : s ≡ s' = cc in
-    let z : slots k ++ slots r ≡ slots k' ++ slots r' = cc in
-    let y = split (slots k) (slots k') (same-length h) z in
-    rw (q, same-slots h (y .0), same-slots j (y .1))
-  where
-    same-length : {f g : Forest} → Same f g → length (slots f) ≡ length (slots g)
-    same-length Same.nil = refl
-    same-length (Same.leaf h) = ap suc (same-length h)
-    same-length (Same.node {k = k} {k' = k'} {r = r} {r' = r'} h j) =
-        omega (arith, same-length h, same-length j, length-append (slots k) (slots r), length-append (slots k') (slots r'))
-
-    split : (u v : List ℕ) {x y : List ℕ} → length u ≡ length v → u ++ x ≡ v ++ y → (u ≡ v) × (x ≡ y)
-    split [] [] l e = (refl, e)
-    split [] (a ∷ v) l e = absurd (omega arith)
-    split (a ∷ u) [] l e = absurd (omega arith)
-    split (a ∷ u) (b ∷ v) {x} {y} l e =
-        let q : a ≡ b = cc in
-        let d : u ++ x ≡ v ++ y = cc in
-        let z = split u v (omega arith) d in
-        (rw (q, z .0), z .1)
-
-same-size : {f g : Forest} → Same f g → size f ≡ size g
-same-size Same.nil = refl
-same-size (Same.leaf h) = ap suc (same-size h)
-same-size (Same.node h j) = omega (arith, same-size h, same-size j)
 
 module _ {G : Grammar} (g : Prepared G) where
   -- a sentence is stored in one way only

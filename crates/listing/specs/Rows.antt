@@ -9,6 +9,7 @@ use Rattle.base.specs.Blocks.{zeros}
 use Rattle.grammar.specs.Forest.{Forest, size, yield}
 use Rattle.trees.specs.Area.{slotSize, maxSlots, tagSpace, headerBytes, slots, Linked, Area}
 use Rattle.trees.specs.Slots.{slot-byte}
+use Rattle.trees.specs.Spread.{length-slots}
 use Rattle.walks.specs.Slots.{symbolIn, productionIn, parentIn, tagIn, Fields, fields}
 use Rattle.kindlesap.specs.Parse.{upFrom}
 use Rattle.listing.specs.Text.{row, firstRow, nodeRows, acceptedText}
@@ -71,11 +72,6 @@ cut s (suc n) m (x ∷ u) v l e =
     let d : u ++ v ≡ upFrom (s + 1) (n + m) = cc in
     let z = cut (s + 1) n m u v (omega arith) d in
     (rw (y, z .0), rw p at (z .1))
-
-length-slots : (f : Forest) → length (slots f) ≡ size f
-length-slots Forest.nil = refl
-length-slots (Forest.leaf s a g r) = ap suc (length-slots r)
-length-slots (Forest.node s M p k r) = omega (arith, length-append (slots k) (slots r), length-slots k, length-slots r)
 
 length-yield : (f : Forest) → length (yield f) ≤ size f
 length-yield Forest.nil = omega arith

@@ -1,14 +1,14 @@
 -- A forest has one area: where it stands, the header, every used slot and every free one are settled.
 use Prim.Native.Nat.{ℕ, zero, suc, _+_, _*_, _/_, _%_, _≤_}
 use mathlib.Core.Path.{_≡_, sym, ap, _∙_}
-use mathlib.Core.Logic.{_⊎_, inl, inr, by-cases}
-use mathlib.Core.List.{List, [], _∷_, List·Memᴰ, List·Memᴰ·head, List·Memᴰ·tail, List·Memᴰ·append-cases}
+use mathlib.Core.Logic.{_⊎_, inl, inr}
+use mathlib.Core.List.{List, List·Memᴰ, List·Memᴰ·head, List·Memᴰ·tail, List·Memᴰ·append-cases}
 use lib.Seq.{ext-getD}
-use native.Mathlib.Decide.{ℕ-discrete}
 use native.Mathlib.Omega.{arith}
 use Rattle.base.specs.Bytes.{byteAt}
 use Rattle.grammar.specs.Forest.{Forest}
 use Rattle.trees.specs.Area.{slotSize, slotAt, slots, Linked, Area}
+use Rattle.trees.specs.Members.{member}
 use Rattle.trees.specs.Slots.{slot-byte}
 
 linked-one : {b b' : List ℕ} {o : ℕ} {f : Forest} (x : ℕ) → Linked b o f → Linked b' o f → List·Memᴰ x (slots f) → slotAt b x ≡ slotAt b' x
@@ -21,18 +21,6 @@ linked-one {b} {b'} x (Linked.node {k = k} {r = r} e c l) (Linked.node e' c' l')
     part : (List·Memᴰ x (slots k) → slotAt b x ≡ slotAt b' x) → (List·Memᴰ x (slots r) → slotAt b x ≡ slotAt b' x) → List·Memᴰ x (slots k) ⊎ List·Memᴰ x (slots r) → slotAt b x ≡ slotAt b' x
     part u v (inl j) = u j
     part u v (inr j) = v j
-
-member : (x : ℕ) (xs : List ℕ) → List·Memᴰ x xs ⊎ (List·Memᴰ x xs → ⊥)
-member x [] = inr (λ m. elim m [ ])
-member x (y ∷ xs) = by-cases (ℕ-discrete x y) (λ e. inl (List·Memᴰ·head e)) (λ n. more n (member x xs))
-  where
-    more : (x ≡ y → ⊥) → List·Memᴰ x xs ⊎ (List·Memᴰ x xs → ⊥) → List·Memᴰ x (y ∷ xs) ⊎ (List·Memᴰ x (y ∷ xs) → ⊥)
-    more n (inl m) = inl (List·Memᴰ·tail m)
-    more n (inr m) = inr no-more
-      where
-        no-more : List·Memᴰ x (y ∷ xs) → ⊥
-        no-more (List·Memᴰ·head e) = n e
-        no-more (List·Memᴰ·tail i) = m i
 
 pub area-one : (S : ℕ) (f : Forest) (b b' : List ℕ) → Area S f b → Area S f b' → b ≡ b'
 area-one S f b b' a a' =

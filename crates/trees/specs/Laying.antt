@@ -13,6 +13,7 @@ use Rattle.grammar.specs.Rows.{lengthAt}
 use Rattle.trees.specs.Coded.{nodeAt, nodesFrom, arityIn}
 use Rattle.trees.specs.Listing.{nodeOf}
 use Rattle.trees.specs.Spread.{slotsOf, Spread, slots-parts, above-leaf, above-inner, tokens-inner, slots-build, size-build}
+use Rattle.trees.specs.Members.{each-mem}
 use Rattle.trees.specs.Slots.{Slotted, slot-zeros}
 use Rattle.trees.specs.Adopting.{Adopted, adopted, Reach, linked-reach, Small, small-within, Takes, adopts, linked-kept, top-front}
 
@@ -233,10 +234,6 @@ counted-turn ar w n i x tokens l m e h =
         omega (arith, h .count, tokens-inner ar (nodeAt w (i - 1) .slot) (nodeAt w (i - 1) .symbol) (nodeAt w (i - 1) .tag) (build ar (nodesFrom w (n - i) i)) (suc p) (omega arith))
 
 -- ---- the whole area
-
-each-mem : {P : ℕ → Type 0} {x : ℕ} (xs : List ℕ) → Each P xs → List·Memᴰ x xs → P x
-each-mem (y ∷ xs) (Each.cons p e) (List·Memᴰ·head q) = rw q p
-each-mem (y ∷ xs) (Each.cons p e) (List·Memᴰ·tail m) = each-mem xs e m
 
 pub laid-all : (S : ℕ) (ar : ℕ → ℕ) (w : List ℕ) (n i head tokens : ℕ) (b b' : List ℕ) → i ≡ 0 → Spread S (nodesFrom w n 0) → Counted ar (nodesFrom w (n - i) i) tokens
     → Laid S ar (nodesFrom w (n - i) i) head b → Slotted b 0 (headerBytes head n tokens) b' → Area S (build ar (nodesFrom w n 0)) b'

@@ -1,6 +1,7 @@
 -- Meaning: the tree area, and that a forest has one.
 pub mod Area
 pub mod AreaOne
+pub mod Members
 -- A forest and the list of its nodes, and that list in bytes.
 pub mod Nodes
 pub mod Coded

@@ -1,14 +1,16 @@
 -- Writing the node list: what a node's eight bytes leave of the others, and the list with one node more.
 use Prim.Native.Nat.{ℕ, zero, suc, _+_, _-_, _*_, _/_, _%_, _≤_, _<_}
 use mathlib.Core.Path.{_≡_, refl, ap, _∙_}
+use mathlib.Core.Logic.{_⊎_, inl, inr}
 use mathlib.Core.List.{List, [], _∷_, _++_}
 use lib.ListN.{length}
 use native.Mathlib.Omega.{arith}
-use Rattle.base.specs.Bytes.{byteAt, get16, get32, leBytes, byte-out, get16-out}
+use Rattle.base.specs.Bytes.{byteAt, get16, get32, put16, leBytes, byte-out, get16-out, length-put16, get-put16, byte-put16}
 use Rattle.base.specs.Filled.{Filled}
 use Rattle.trees.specs.Area.{tagSpace}
 use Rattle.trees.specs.Nodes.{Node}
 use Rattle.trees.specs.Coded.{nodeSize, nodeBytes, nodeAt, nodesFrom}
+use Rattle.trees.specs.Slots.{apart}
 
 -- a node of these four
 abbrev pub nodeOf : ℕ → ℕ → ℕ → ℕ → Node
@@ -44,7 +46,7 @@ put-filled w w' src i s x p g e b u =
     let g' : get32 w' (nodeSize * i + 4) ≡ g = omega arith in
     record { long = h .long; node = cc; before = h .before; behind = h .behind }
 
-node-kept : (w w' : List ℕ) (i : ℕ) → ((j : ℕ) → nodeSize * i ≤ j → j < nodeSize * (i + 1) → byteAt w' j ≡ byteAt w j) → nodeAt w' i ≡ nodeAt w i
+pub node-kept : (w w' : List ℕ) (i : ℕ) → ((j : ℕ) → nodeSize * i ≤ j → j < nodeSize * (i + 1) → byteAt w' j ≡ byteAt w j) → nodeAt w' i ≡ nodeAt w i
 unfolding nodeAt
 node-kept w w' i h =
     let a0 = h (nodeSize * i) (omega arith) (omega arith) in
@@ -56,6 +58,38 @@ node-kept w w' i h =
     let a6 = h (nodeSize * i + 4 + 2) (omega arith) (omega arith) in
     let a7 = h (nodeSize * i + 4 + 3) (omega arith) (omega arith) in
     cc
+
+-- the other nodes are what they were
+pub put-other : {w w' : List ℕ} {i : ℕ} {e : Node} → Put w i e w' → (x : ℕ) → (x ≡ i → ⊥) → nodeAt w' x ≡ nodeAt w x
+put-other {w} {w'} {i} {e} h x d = node-kept w w' x (λ j l m. go (apart x i d) j l m)
+  where
+    go : (x < i) ⊎ (i < x) → (j : ℕ) → nodeSize * x ≤ j → j < nodeSize * (x + 1) → byteAt w' j ≡ byteAt w j
+    go (inl y) j l m = h .before j (omega arith)
+    go (inr y) j l m = h .behind j (omega arith)
+
+-- a node with another slot
+abbrev pub inSlot : ℕ → Node → Node
+inSlot s e = nodeOf s (e .symbol) (e .production) (e .tag)
+
+pub put-slot : (w w' : List ℕ) (i s : ℕ) → nodeSize * i + nodeSize ≤ length w → w' ≡ put16 w (nodeSize * i + 2) s → Put w i (inSlot s (nodeAt w i)) w'
+unfolding nodeAt
+put-slot w w' i s l e =
+    let at : ℕ = nodeSize * i + 2 in
+    let k : (j : ℕ) → (j ≡ at → ⊥) → (j ≡ at + 1 → ⊥) → byteAt (put16 w at s) j ≡ byteAt w j = λ j. byte-put16 w at s j in
+    let q = get-put16 w at s (omega arith) in
+    let a0 = k (nodeSize * i) (λ e. omega arith) (λ e. omega arith) in
+    let a1 = k (nodeSize * i + 1) (λ e. omega arith) (λ e. omega arith) in
+    let a4 = k (nodeSize * i + 4) (λ e. omega arith) (λ e. omega arith) in
+    let a5 = k (nodeSize * i + 4 + 1) (λ e. omega arith) (λ e. omega arith) in
+    let a6 = k (nodeSize * i + 4 + 2) (λ e. omega arith) (λ e. omega arith) in
+    let a7 = k (nodeSize * i + 4 + 3) (λ e. omega arith) (λ e. omega arith) in
+    let n : nodeAt (put16 w at s) i ≡ inSlot s (nodeAt w i) = cc in
+    rw e (record {
+      long = length-put16 w at s;
+      node = n;
+      before = λ j m. k j (λ e. omega arith) (λ e. omega arith);
+      behind = λ j m. k j (λ e. omega arith) (λ e. omega arith);
+    })
 
 -- nodes of the same bytes
 pub nodes-kept : (w w' : List ℕ) (k i : ℕ) → ((j : ℕ) → nodeSize * i ≤ j → j < nodeSize * (i + k) → byteAt w' j ≡ byteAt w j) → nodesFrom w' k i ≡ nodesFrom w k i

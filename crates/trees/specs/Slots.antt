@@ -35,8 +35,8 @@ slot-is b c s f n h =
     let q : length (slotAt b s) ≡ slotSize = omega (arith, length-take slotSize (drop (slotSize * s) b), length-drop (slotSize * s) b) in
     ext-getD 0 (slotAt b s) c (q ∙ sym n) (λ i l. slot-byte b s i (omega arith) ∙ h i (omega arith))
 
--- two slots that are not the same lie apart
-apart : (x s : ℕ) → (x ≡ s → ⊥) → (x < s) ⊎ (s < x)
+-- two places that are not the same lie apart
+pub apart : (x s : ℕ) → (x ≡ s → ⊥) → (x < s) ⊎ (s < x)
 apart x s n = by-cases (decLt x s) (λ l. inl l) (λ l. inr (more l))
   where
     more : (x < s → ⊥) → s < x

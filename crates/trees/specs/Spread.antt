@@ -2,7 +2,7 @@
 use Prim.Native.Nat.{ℕ, zero, suc, _+_, _≤_, _<_}
 use mathlib.Core.Path.{_≡_, refl, sym, ap, _∙_}
 use mathlib.Core.List.{List, [], _∷_, _++_, append-assoc}
-use lib.ListN.{length}
+use lib.ListN.{length, length-append}
 use native.Mathlib.Omega.{arith}
 use Rattle.grammar.specs.Each.{Each}
 use Rattle.grammar.specs.Forest.{Forest, size, yield}
@@ -16,10 +16,20 @@ abbrev pub slotsOf : List Node → List ℕ
 slotsOf [] = []
 slotsOf (e ∷ es) = e .slot ∷ slotsOf es
 
+pub slots-append : (es fs : List Node) → slotsOf (es ++ fs) ≡ slotsOf es ++ slotsOf fs
+slots-append [] fs = refl
+slots-append (e ∷ es) fs = ap (λ (l : List ℕ). e .slot ∷ l) (slots-append es fs)
+
 -- the nodes' slots are among 1..S, each once
 pub record Spread (S : ℕ) (es : List Node) : Type 0 where
   pub once : Distinct (slotsOf es)
   pub within : Each (λ s. (1 ≤ s) × (s ≤ S)) (slotsOf es)
+
+-- a slot for each node
+pub length-slots : (f : Forest) → length (slots f) ≡ size f
+length-slots Forest.nil = refl
+length-slots (Forest.leaf s a g r) = ap suc (length-slots r)
+length-slots (Forest.node s M p k r) = omega (arith, length-append (slots k) (slots r), length-slots k, length-slots r)
 
 -- ---- a forest and its first trees
 

@@ -7,7 +7,7 @@ ghost use Rattle.base.specs.Bytes.{byteAt, get16, put16, get32};
 ghost use Rattle.base.specs.Filled.{Filled};
 ghost use Rattle.trees.specs.Coded.{nodeSize, nodeBytes, nodeAt, nodesFrom, arityIn};
 ghost use Rattle.trees.specs.Nodes.{build, Fed};
-ghost use Rattle.trees.specs.Listing.{nodeOf, Fits, Put};
+ghost use Rattle.trees.specs.Listing.{nodeOf, inSlot, Fits, Put};
 ghost use Rattle.trees.specs.Slots.{Slotted, parentPlace, nextPlace};
 ghost use Rattle.trees.specs.Adopting.{adopted, Reach};
 ghost use Rattle.trees.specs.Laying.{Ready, Lays, tokenOf};
@@ -144,6 +144,14 @@ fn put_pair(b: &mut [u8], at: usize, v: usize)
 {
     b[at] = (v % 256) as u8;
     b[at + 1] = (v / 256) as u8;
+}
+
+// Gives node i another slot.
+pub fn set_slot(nodes: &mut [u8], i: usize, slot: usize)
+    requires { ⌜ (nodeSize * i + nodeSize ≤ length (now nodes)) × (slot < 65536) ⌝ }
+    ensures { λ _. ⌜ Put (now (nodes .entry)) i (inSlot slot (nodeAt (now (nodes .entry)) i)) (now (nodes .exit)) ⌝ }
+{
+    put_pair(nodes, NODE_SIZE * i + 2, slot);
 }
 
 // The bytes of a slot with no parent.

@@ -1,26 +1,17 @@
--- The slots of a list of nodes: a mark for each, so that none stands twice, and so many different slots of 1..S are at most S.
-use Prim.Native.Nat.{ℕ, zero, suc, _+_, _≤_, _<_}
-use mathlib.Core.Path.{_≡_, refl, sym, ap, _∙_}
-use mathlib.Core.Logic.{_⊎_, ⊎-elim, by-cases}
-use mathlib.Core.List.{List, [], _∷_, _++_, List·Memᴰ, List·Memᴰ·head, List·Memᴰ·tail, List·Memᴰ·not-nil, List·Memᴰ·cases-cons, List·Memᴰ·append-cases, List·Memᴰ·eq-of-singleton, Memᴰ·cast, Memᴰ·append-left, Memᴰ·append-right}
+-- The slots of a list of nodes: a mark for each, so that none stands twice.
+use Prim.Native.Nat.{ℕ, _<_}
+use mathlib.Core.Path.{_≡_, sym, ap, _∙_}
+use mathlib.Core.Logic.{⊎-elim, by-cases}
+use mathlib.Core.List.{List, [], _∷_, _++_, List·Memᴰ, List·Memᴰ·head, List·Memᴰ·tail, List·Memᴰ·not-nil, List·Memᴰ·cases-cons, List·Memᴰ·append-cases, List·Memᴰ·eq-of-singleton, Memᴰ·append-left, Memᴰ·append-right}
 use lib.ListN.{length, set}
 use lib.Seq.{getD-set-same, getD-set-other}
 use native.Mathlib.Decide.{ℕ-discrete}
 use native.Mathlib.Omega.{arith}
 use Rattle.base.specs.Bytes.{byteAt}
 use Rattle.base.specs.Blocks.{zeros, byte-zeros}
-use Rattle.grammar.specs.Each.{Each}
 use Rattle.trees.specs.Area.{Distinct}
 use Rattle.trees.specs.Nodes.{Node}
-use Rattle.walks.specs.Frames.{Within}
-
-abbrev pub slotsOf : List Node → List ℕ
-slotsOf [] = []
-slotsOf (e ∷ es) = e .slot ∷ slotsOf es
-
-pub slots-append : (es fs : List Node) → slotsOf (es ++ fs) ≡ slotsOf es ++ slotsOf fs
-slots-append [] fs = refl
-slots-append (e ∷ es) fs = ap (λ (l : List ℕ). e .slot ∷ l) (slots-append es fs)
+use Rattle.trees.specs.Spread.{slotsOf, slots-append}
 
 -- ---- different numbers
 
@@ -34,60 +25,6 @@ distinct-apart : (xs : List ℕ) (y : ℕ) (ys : List ℕ) → Distinct (xs ++ (
 distinct-apart [] y ys d m = List·Memᴰ·not-nil m
 distinct-apart (x ∷ xs) y ys (Distinct.cons f d) m =
     ⊎-elim (λ e. f (Memᴰ·append-right xs (List·Memᴰ·head (sym e)))) (distinct-apart xs y ys d) (List·Memᴰ·cases-cons m)
-
--- a list without v
-record Without (v : ℕ) (xs : List ℕ) : Type 1 where
-  rest : List ℕ
-  short : length xs ≤ suc (length rest)
-  part : {y : ℕ} → List·Memᴰ y rest → List·Memᴰ y xs
-  apart : Distinct xs → Distinct rest
-  gone : Distinct xs → List·Memᴰ v rest → ⊥
-  keeps : {P : ℕ → Type 0} → Each P xs → Each P rest
-
-without : (v : ℕ) (xs : List ℕ) → Without v xs
-without v [] = record { rest = []; short = omega arith; part = λ m. m; apart = λ d. d; gone = λ d m. List·Memᴰ·not-nil m; keeps = λ e. e }
-without v (x ∷ xs) = by-cases (ℕ-discrete v x) here (there (without v xs))
-  where
-    first : Distinct (x ∷ xs) → (List·Memᴰ x xs → ⊥) × Distinct xs
-    first (Distinct.cons f d) = (f, d)
-
-    split : {P : ℕ → Type 0} → Each P (x ∷ xs) → P x × Each P xs
-    split (Each.cons p e) = (p, e)
-
-    here : v ≡ x → Without v (x ∷ xs)
-    here e =
-        record {
-          rest = xs;
-          short = omega arith;
-          part = List·Memᴰ·tail;
-          apart = λ d. first d .1;
-          gone = λ d m. first d .0 (Memᴰ·cast (sym e) m);
-          keeps = λ p. split p .1;
-        }
-
-    there : Without v xs → (v ≡ x → ⊥) → Without v (x ∷ xs)
-    there w n =
-        record {
-          rest = x ∷ w .rest;
-          short = omega (arith, w .short);
-          part = λ m. ⊎-elim (λ e. List·Memᴰ·head e) (λ z. List·Memᴰ·tail (w .part z)) (List·Memᴰ·cases-cons m);
-          apart = λ d. Distinct.cons (λ m. first d .0 (w .part m)) (w .apart (first d .1));
-          gone = λ d m. ⊎-elim n (w .gone (first d .1)) (List·Memᴰ·cases-cons m);
-          keeps = λ p. Each.cons (split p .0) (w .keeps (split p .1));
-        }
-
-lower : (S : ℕ) (xs : List ℕ) → Each (Within (suc S)) xs → (List·Memᴰ (suc S) xs → ⊥) → Each (Within S) xs
-lower S [] Each.nil n = Each.nil
-lower S (x ∷ xs) (Each.cons w e) n =
-    let m : x ≡ suc S → ⊥ = λ q. n (List·Memᴰ·head (sym q)) in
-    Each.cons (w .0, omega arith) (lower S xs e (λ z. n (List·Memᴰ·tail z)))
-
-pub pigeon : (S : ℕ) (xs : List ℕ) → Each (Within S) xs → Distinct xs → length xs ≤ S
-pigeon zero [] e d = omega arith
-pigeon zero (x ∷ xs) (Each.cons w e) d = omega arith
-pigeon (suc S) xs e d =
-    let w = without (suc S) xs in
-    omega (arith, w .short, pigeon S (w .rest) (lower S (w .rest) (w .keeps e) (w .gone d)) (w .apart d))
 
 -- ---- a mark for each slot
 

@@ -11,10 +11,11 @@ use Rattle.grammar.specs.Each.{Each}
 use Rattle.grammar.specs.Grammar.{Grammar}
 use Rattle.grammar.specs.Forest.{Forest, size, yield, Derives}
 use Rattle.trees.specs.Area.{slotSize, maxSlots, areaSize, headerBytes, slotAt, top, slots, Distinct, Linked, Area, Valid}
+use Rattle.trees.specs.Members.{pigeon}
 use Rattle.trees.specs.Nodes.{Node, preorder}
+use Rattle.trees.specs.Spread.{slotsOf, slots-append, length-slots}
 use Rattle.trees.specs.Slots.{slot-byte}
 use Rattle.walks.specs.Frames.{Frame, frame, Within, Walks, Grown, walks-grown, linked-walks, linked-one, rule-positive, top-small}
-use Rattle.walks.specs.Marks.{slotsOf, slots-append, pigeon}
 
 -- a leaf counts 1
 abbrev pub leafOf : ℕ → ℕ
@@ -123,11 +124,6 @@ module _ {G : Grammar} {S : ℕ} {b : List ℕ} where
 
   pub valid-few : (v : Valid G S b) → length (preorder (v .tree)) ≤ S
   valid-few v = let q = slots-preorder (v .tree) in omega (arith, pigeon S (slots (v .tree)) (v .area .within) (v .area .once), length-slots (v .tree), size-preorder (v .tree))
-    where
-      length-slots : (F : Forest) → length (slots F) ≡ size F
-      length-slots Forest.nil = refl
-      length-slots (Forest.leaf s a g r) = ap suc (length-slots r)
-      length-slots (Forest.node s M p k r) = omega (arith, length-append (slots k) (slots r), length-slots k, length-slots r)
 
   pub valid-header : (v : Valid G S b) → Header b (top (v .tree)) (size (v .tree)) (length (yield (v .tree)))
   valid-header v =
