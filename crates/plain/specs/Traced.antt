@@ -93,7 +93,7 @@ module _ {G : Grammar} where
   follows α {M} (k ∷ w) (Each.cons h t) s d =
       inside α (kinds w) h (trans s (simp (append-assoc, append-nil) at (steps-in (α ++ M ∷ []) [] d)))
 
-  terminals : {xs : List ℕ} {f : Forest} → Derives G xs f → Each (Terminal G) (kinds (yield f))
+  pub terminals : {xs : List ℕ} {f : Forest} → Derives G xs f → Each (Terminal G) (kinds (yield f))
   terminals Derives.nil = Each.nil
   terminals (Derives.leaf t d) = Each.cons t (terminals d)
   terminals (Derives.node {k = k} {r = f} r e d) = rw (kinds-append (yield k) (yield f)) (each-join (terminals e) (terminals d))
