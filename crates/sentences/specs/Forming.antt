@@ -21,6 +21,10 @@ use Rattle.sentences.specs.Leaves.{leavesFrom, leaves-whole, Gave, Skipp
 abbrev pub editOf : ℕ → ℕ → List Token → Edit
 editOf place removed w = record { place = place; removed = removed; inserted = w }
 
+-- the first `limit` tokens of the new sentence, r of them, stand at the beginning of out'; the old one is that of the n nodes, and b are the m lent tokens
+pub record NewSentence (nodes : List ℕ) (n place removed : ℕ) (b : List ℕ) (m limit : ℕ) (out out' : List ℕ) (r : ℕ) : Type 0 where
+  pub added : Added (take limit (edited (editOf place removed (tokensFrom b m 0)) (leavesOf (nodesFrom nodes n 0)))) out out' 0 r
+
 -- ---- the lent tokens
 
 take-tokens : (b : List ℕ) (k m i : ℕ) → k ≤ m → take k (tokensFrom b m i) ≡ tokensFrom b k i
@@ -83,7 +87,7 @@ parts w ins place removed limit end a b e ea eb =
 pub formed : (nodes b : List ℕ) (n place removed m limit end node at : ℕ) (out out₁ : List ℕ) → end ≡ min place limit → tokenSize * limit ≤ length out → at ≤ end
     → Gave nodes n 0 out 0 end node at out₁ → (next : ℕ) (out₂ : List ℕ) → next ≤ limit → Added (take (limit - at) (tokensFrom b m 0)) out₁ out₂ at next
     → (from : ℕ) → Skipped nodes n node removed from 0 → (last r : ℕ) (out₃ : List ℕ) → Gave nodes n from out₂ next limit last r out₃
-    → Added (take limit (edited (editOf place removed (tokensFrom b m 0)) (leavesOf (nodesFrom nodes n 0)))) out out₃ 0 r
+    → NewSentence nodes n place removed b m limit out out₃ r
 formed nodes b n place removed m limit end node at out out₁ e room l h next out₂ l₂ h₂ from s last r out₃ h₃ =
     let w : List Token = leavesFrom nodes n 0 in
     let ins : List Token = tokensFrom b m 0 in
@@ -94,4 +98,4 @@ formed nodes b n place removed m limit end node at out out₁ e room l h next ou
     let q : take limit (take place w ++ (ins ++ drop (place + removed) w)) ≡ take end w ++ take (limit - at) ins ++ take (limit - next) (drop removed (drop end w)) =
     parts w ins place removed limit end at next e (omega (arith, g .count)) (omega (arith, h₂ .count))
     in
-    rw (← leaves-whole nodes n, q) (added-more (omega arith) (added-more (omega arith) g h₂) g₃)
+    record { added = rw (← leaves-whole nodes n, q) (added-more (omega arith) (added-more (omega arith) g h₂) g₃) }

@@ -6,13 +6,10 @@ ghost use lib.ListN.{length, take};
 ghost use Rattle.base.specs.Bytes.{leBytes};
 ghost use Rattle.base.specs.Blocks.{copied};
 ghost use Rattle.trees.specs.Area.{tagSpace, maxSlots};
-ghost use Rattle.trees.specs.Nodes.{leavesOf};
-ghost use Rattle.trees.specs.Coded.{nodesFrom};
 ghost use Rattle.plain.specs.Tokens.{tokenSize, tokensFrom};
-ghost use Rattle.edits.specs.Keeping.{edited};
 ghost use Rattle.sentences.specs.Adding.{Added};
 ghost use Rattle.sentences.specs.Leaves.{Gave, Skipped};
-ghost use Rattle.sentences.specs.Forming.{editOf};
+ghost use Rattle.sentences.specs.Forming.{NewSentence};
 
 // How far the leaves are written: the next node, and the next token.
 pub struct Reached {
@@ -107,7 +104,7 @@ pub fn new_sentence(
     out: &mut [u8],
 ) -> usize
     requires { ⌜ (n ≤ maxSlots) × (length (now tokens) ≡ tokenSize * m) × (limit ≤ maxSlots + 1) × (tokenSize * limit ≤ length (now out)) ⌝ }
-    ensures { λ r. ⌜ Added (take limit (edited (editOf place removed (tokensFrom (now (tokens .entry)) m 0)) (leavesOf (nodesFrom (now (nodes .entry)) n 0)))) (now (out .entry)) (now (out .exit)) 0 r × (r ≤ limit) ⌝ }
+    ensures { λ r. ⌜ NewSentence (now (nodes .entry)) n place removed (now (tokens .entry)) m limit (now (out .entry)) (now (out .exit)) r × (r ≤ limit) ⌝ }
 {
     let before = give(nodes, n, 0, out, 0, base::least(place, limit));
     let next = put_tokens(out, before.token, tokens, m, limit);
