@@ -13,7 +13,7 @@ use Rattle.grammar.specs.Prediction.{Predicts}
 use Rattle.grammar.specs.Forest.{Token}
 use Rattle.plain.specs.Plain.{ahead, Verdict, accepted, Expects, Runs, accepts, matches, expands, crowded, stuck, Parses}
 
--- nothing comes behind the tokens u, i of them matched before, or the last of them is token S
+-- behind i tokens that are matched come u, then r: r is empty, or the last of u is token S
 abbrev Enough : ℕ → ℕ → List Token → List Token → Type 0
 Enough S i u r = (r ≡ []) ⊎ (i + length u ≡ suc S)
 
@@ -23,6 +23,7 @@ same-ahead S i [] r l (inl e) = rw e
 same-ahead S i [] r l (inr e) = absurd (omega (arith, e))
 
 module _ {G : Grammar} {S : ℕ} where
+  -- so the parse of u ends as that of u and r does
   run-more : {xs : List ℕ} {u : List Token} {c i : ℕ} {v : Verdict} (r : List Token) → i + length xs ≤ c → c ≤ S → Enough S i u r → Runs G S xs u c i v → Runs G S xs (u ++ r) c i v
   run-more r m l (inl e) accepts = rw e accepts
   run-more r m l (inr e) accepts = absurd (omega (arith, e))
