@@ -24,3 +24,5 @@ pub mod Giving
 pub mod Counts
 -- An edit has one new tree and one set of counts.
 pub mod Uniqueness
+-- Laws: how much of the new sentence a parse looks at.
+pub mod Cut

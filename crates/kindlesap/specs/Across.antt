@@ -1,21 +1,21 @@
 -- Across calls: what parse has stored, read back returns. Demand 2: "that tree is stored; reading it back gives the same tokens and tags".
-use Prim.Native.Nat.{ℕ, _+_, _*_, _≤_, _<_}
-use mathlib.Core.Path.{_≡_, refl, sym, ap, _∙_}
+use Prim.Native.Nat.{ℕ, _≤_}
+use mathlib.Core.Path.{_≡_, sym, ap, _∙_}
 use mathlib.Core.List.{List, _++_}
 use lib.ListN.{length, drop}
 use native.Mathlib.Omega.{arith}
 use Rattle.base.specs.Choose.{never}
 use Rattle.grammar.specs.Grammar.{Grammar}
-use Rattle.grammar.specs.Forest.{Forest, size, yield}
+use Rattle.grammar.specs.Forest.{size, yield}
 use Rattle.trees.specs.Area.{Valid}
-use Rattle.plain.specs.Tokens.{tokenSize, tokenBytes}
+use Rattle.plain.specs.Tokens.{tokenBytes}
+use Rattle.sentences.specs.Adding.{length-token-bytes}
 use Rattle.replies.specs.declared.Counts.{Counts}
 use Rattle.replies.specs.declared.Reply.{Reply}
 use Rattle.replies.specs.declared.Reply.the-variants.{Accepted}
 use Rattle.kindlesap.specs.Judged.{Judged, useless, conflict, fit, Opened, bad-image, good-image}
 use Rattle.kindlesap.specs.Parse.{Fits, wrong-tables, wrong-area, short-work, bad-token, wrong-syntax, no-room, stored, parseCounts, ParseOutcome}
 use Rattle.kindlesap.specs.ReadBack.{readCounts, needed, Returns, returned, ReadOutcome, read-one}
-use Rattle.kindlesap.specs.Returning.{length-token-bytes}
 
 -- for every accepted parse, read back of the stored tree into a long enough output is accepted with that total and gives the same token bytes
 pub parse-read-back : {image tables tokens tree work tree' work' : List ℕ} {r : Reply} (c : Counts) → ParseOutcome image tables tokens tree work r tree' work' → r ≡ Accepted c

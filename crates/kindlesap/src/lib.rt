@@ -10,9 +10,7 @@ use walks::Walked;
 ghost use mathlib.Core.Path.{_≡_};
 ghost use Prim.Native.Nat.{_+_, _*_, _<_, _≤_};
 ghost use lib.ListN.{length};
-ghost use mathlib.Core.List.{_∷_};
-ghost use Rattle.base.specs.Bytes.{leBytes};
-ghost use Rattle.base.specs.Blocks.{zeros, copied};
+ghost use Rattle.base.specs.Blocks.{zeros};
 ghost use Rattle.grammar.specs.Limits.{maxProductions};
 ghost use Rattle.grammar.specs.Rows.{grammarIn};
 ghost use Rattle.grammar.specs.Grammar.{WellFormed};
@@ -20,10 +18,7 @@ ghost use Rattle.sets.specs.Words.{setsSize};
 ghost use Rattle.grammar.specs.Prediction.{Prepared};
 ghost use Rattle.tables.specs.Tables.{predictionsSize, Tables};
 ghost use Rattle.tables.specs.Outcome.{Ready};
-ghost use Rattle.trees.specs.Area.{tagSpace, maxSlots};
-ghost use Rattle.trees.specs.Nodes.{leavesOf};
-ghost use Rattle.trees.specs.Coded.{nodesFrom};
-ghost use Rattle.plain.specs.Tokens.{tokenSize, Sentence, tokensFrom};
+ghost use Rattle.plain.specs.Tokens.{Sentence, tokensFrom};
 ghost use Rattle.plain.specs.Machine.{Ground, Done};
 ghost use Rattle.kindlesap.specs.Judged.{Judged, Opened};
 ghost use Rattle.kindlesap.specs.Judging.{Found};
@@ -31,7 +26,7 @@ ghost use Rattle.kindlesap.specs.Prepare.{Writes, Prepares, Called};
 ghost use Rattle.kindlesap.specs.Parse.{workAreas, Sized, Fits, ParseOutcome, ParseCalled};
 ghost use Rattle.kindlesap.specs.ReadBack.{Returns, ReadOutcome, ReadCalled};
 ghost use Rattle.kindlesap.specs.Storing.{Slotted};
-ghost use Rattle.kindlesap.specs.Returning.{Giving, Treed};
+ghost use Rattle.kindlesap.specs.Returning.{Treed};
 
 pub const WORK_AREAS: usize = 3;
 
@@ -339,42 +334,6 @@ pub fn parse(image: &[u8], tables: &[u8], tokens: &[u8], tree: &mut [u8], work: 
     r
 }
 
-// Writes a token at `at`.
-fn put_token(out: &mut [u8], at: usize, kind: usize, tag: usize)
-    requires { ⌜ (kind < 256) × (tag < tagSpace) ⌝ }
-    ensures { λ _. ⌜ now (out .exit) ≡ copied (now (out .entry)) at (kind ∷ leBytes 4 tag) ⌝ }
-{
-    let bytes = [
-        kind as u8,
-        (tag % 256) as u8,
-        (tag / 256 % 256) as u8,
-        (tag / 256 / 256 % 256) as u8,
-        (tag / 256 / 256 / 256 % 256) as u8,
-    ];
-    base::copy(out, at, &bytes);
-}
-
-// Writes the tokens of the leaves among n nodes.
-fn give(nodes: &[u8], n: usize, out: &mut [u8])
-    requires { ⌜ (n ≤ maxSlots) × (tokenSize * length (leavesOf (nodesFrom (now nodes) n 0)) ≤ length (now out)) ⌝ }
-    ensures { λ _. ⌜ Giving (now (nodes .entry)) n (now (out .entry)) (now (out .exit)) (length (leavesOf (nodesFrom (now (nodes .entry)) n 0))) ⌝ }
-{
-    let mut j: usize = 0;
-    let mut i: usize = 0;
-    while i < n {
-        let p = trees::production_of(nodes, i);
-        let k = i;
-        i += 1;
-        if p != 0 {
-            continue;
-        }
-        let symbol = trees::symbol_of(nodes, k);
-        let tag = trees::tag_of(nodes, k);
-        put_token(out, plain::TOKEN_SIZE * j, symbol, tag);
-        j += 1;
-    }
-}
-
 // Reply 11, or the tokens of the tree whose o nodes are listed.
 fn give_back(
     rows: &[u8],
@@ -396,7 +355,7 @@ fn give_back(
     if output.len() < need {
         return Reply::Refused(Reason::ShortOutput(need as u64));
     }
-    give(nodes, o, output);
+    sentences::give(nodes, o, 0, output, 0, tokens);
     Reply::Accepted(Counts {
         total: o as u32,
         kept: 0,

@@ -77,7 +77,7 @@ drop-token b n l =
     one i j q l e = drop-cons b i 0 l ∙ ap (λ (u : List ℕ). byteAt b i ∷ u) (rw q at e)
 
 -- k tokens from token i on, then the others
-tokens-part : (b : List ℕ) (k i : ℕ) → Bytes b → tokenSize * (i + k) ≤ length b → drop (tokenSize * i) b ≡ tokenBytes (tokensFrom b k i) ++ drop (tokenSize * (i + k)) b
+pub tokens-part : (b : List ℕ) (k i : ℕ) → Bytes b → tokenSize * (i + k) ≤ length b → drop (tokenSize * i) b ≡ tokenBytes (tokensFrom b k i) ++ drop (tokenSize * (i + k)) b
 unfolding tokenAt
 tokens-part b zero i f l = let q : i + 0 ≡ i = omega arith in rw q
 tokens-part b (suc k) i f l =

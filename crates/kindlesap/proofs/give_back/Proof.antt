@@ -1,4 +1,4 @@
-use Rattle.kindlesap.specs.Returning.{need-is, treed-few, returns-short, returns-given}
+use Rattle.kindlesap.specs.Returning.{treed-few, returns-short, returns-given}
 use borrow.Author.Needs.{needs}
 use Rattle.kindlesap.proofs.give_back.Statement.{statement}
 use Rattle.kindlesap.proofs.give_back.Tie as tie
@@ -13,7 +13,7 @@ returns : tie.Need-returns
 returns c = returns-short _ _ _ _ _ _ _ _ _ (c .before .before .before .before .before .before .pre) _ _ _ (c .before .get16 .ensures .0) (search needs) (search needs)
 
 give-requires : tie.Need-give-requires
-give-requires c κs = let f = treed-few _ _ _ _ _ _ _ _ _ (c .before .before .before .before .before .before .before .pre) in let q = need-is _ _ _ _ _ _ _ _ _ (c .before .before .before .before .before .before .before .pre) _ (c .before .before .get16 .ensures .0) in (f, search needs)
+give-requires c κs = let f = treed-few _ _ _ _ _ _ _ _ _ (c .before .before .before .before .before .before .before .pre) in search needs
 
 cast-t20 : tie.Need-cast-t20
 cast-t20 c = let f = treed-few _ _ _ _ _ _ _ _ _ (c .before .before .before .before .before .before .before .before .before .before .pre) in search needs
@@ -22,7 +22,7 @@ same-length : tie.Need-same-length
 same-length c = search needs
 
 returns-2 : tie.Need-returns-2
-returns-2 c = let q = need-is _ _ _ _ _ _ _ _ _ (c .before .before .before .before .before .before .before .before .before .before .pre) _ (c .before .before .before .before .before .get16 .ensures .0) in returns-given _ _ _ _ _ _ _ _ _ (c .before .before .before .before .before .before .before .before .before .before .pre) _ _ _ (search needs) (c .before .before .give .ensures)
+returns-2 c = returns-given _ _ _ _ _ _ _ _ _ (c .before .before .before .before .before .before .before .before .before .before .pre) _ _ _ _ _ (c .before .before .before .before .before .get16 .ensures .0) (search needs) (c .before .before .give .ensures .0)
 
 pub give-back-spec : {M : Type 1} → statement M
 give-back-spec =

@@ -1,8 +1,7 @@
 use Rattle.base.specs.Bytes.{leBytes}
-use Prim.Native.Nat.{_-_}
 use borrow.Author.Needs.{needs}
-use Rattle.kindlesap.proofs.put_token.Statement.{statement}
-use Rattle.kindlesap.proofs.put_token.Tie as tie
+use Rattle.sentences.proofs.put_token.Statement.{statement}
+use Rattle.sentences.proofs.put_token.Tie as tie
 
 cast-t6 : tie.Need-cast-t6
 cast-t6 c = search needs

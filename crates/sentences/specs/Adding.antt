@@ -1,0 +1,58 @@
+-- Tokens written one behind the other.
+use Prim.Native.Nat.{ℕ, _+_, _-_, _*_, _≤_, min}
+use mathlib.Core.Path.{_≡_, refl, sym, ap, _∙_}
+use mathlib.Core.List.{List, [], _∷_, _++_, append-assoc, append-nil}
+use lib.ListN.{length, take, drop, take-append-drop, length-append}
+use lib.Seq.{length-take-le, take-length, take-at, drop-append-add, drop-drop}
+use native.Mathlib.Omega.{arith}
+use Rattle.base.specs.Bytes.{leBytes}
+use Rattle.base.specs.Blocks.{copied}
+use Rattle.grammar.specs.Forest.{Token}
+use Rattle.plain.specs.Tokens.{tokenSize, tokenBytes}
+
+-- out' is out with the tokens v from token `at` on, up to token j
+pub record Added (v : List Token) (out out' : List ℕ) (at j : ℕ) : Type 0 where
+  pub is : out' ≡ take (tokenSize * at) out ++ tokenBytes v ++ drop (tokenSize * j) out
+  pub count : at + length v ≡ j
+
+pub length-token-bytes : (w : List Token) → length (tokenBytes w) ≡ tokenSize * length w
+unfolding leBytes
+length-token-bytes [] = refl
+length-token-bytes (k ∷ w) = omega (arith, length-token-bytes w)
+
+token-bytes-append : (u v : List Token) → tokenBytes (u ++ v) ≡ tokenBytes u ++ tokenBytes v
+token-bytes-append [] v = refl
+token-bytes-append (k ∷ u) v =
+    ap (λ (x : List ℕ). k .kind ∷ x) (ap (λ (x : List ℕ). leBytes 4 (k .tag) ++ x) (token-bytes-append u v) ∙ sym (append-assoc (leBytes 4 (k .tag)) (tokenBytes u) (tokenBytes v)))
+
+pub added-none : (out : List ℕ) (at : ℕ) → Added [] out out at at
+added-none out at =
+    let q : take (tokenSize * at) out ++ [] ++ drop (tokenSize * at) out ≡ out = rw (append-nil (take (tokenSize * at) out)) (take-append-drop (tokenSize * at) out) in
+    record { is = sym q; count = omega arith }
+
+-- a copy of the tokens' bytes
+pub added-copy : (v : List Token) (out out' src : List ℕ) (at j : ℕ) → src ≡ tokenBytes v → at + length v ≡ j → tokenSize * j ≤ length out → out' ≡ copied out (tokenSize * at) src → Added v out out' at j
+unfolding copied
+added-copy v out out' src at j e n l c =
+    let ls : length src ≡ tokenSize * length v = ap length e ∙ length-token-bytes v in
+    let q : min (length src) (length out - tokenSize * at) ≡ length src = omega arith in
+    let d : tokenSize * at + length src ≡ tokenSize * j = omega arith in
+    record { is = c ∙ rw (q, take-length src, d, e); count = n }
+
+-- tokens behind tokens
+pub added-more : {u v : List Token} {out out' out'' : List ℕ} {at i j : ℕ} → tokenSize * i ≤ length out → Added u out out' at i → Added v out' out'' i j → Added (u ++ v) out out'' at j
+added-more {u} {v} {out} {out'} {out''} {at} {i} {j} l h k =
+    let front : List ℕ = take (tokenSize * at) out ++ tokenBytes u in
+    let lt : length (take (tokenSize * at) out) ≡ tokenSize * at = length-take-le (tokenSize * at) out (omega (arith, h .count)) in
+    let lf : length front ≡ tokenSize * i = omega (arith, length-append (take (tokenSize * at) out) (tokenBytes u), lt, length-token-bytes u, h .count) in
+    let t : take (tokenSize * i) out' ≡ front = ap (take (tokenSize * i)) (h .is) ∙ take-at front (drop (tokenSize * i) out) (tokenSize * i) lf in
+    let s : length front + tokenSize * length v ≡ tokenSize * j = omega (arith, lf, k .count) in
+    let z : tokenSize * i + tokenSize * length v ≡ tokenSize * j = omega (arith, k .count) in
+    let d : drop (tokenSize * j) out' ≡ drop (tokenSize * j) out =
+    ap (drop (tokenSize * j)) (h .is) ∙ ap (λ (x : ℕ). drop x (front ++ drop (tokenSize * i) out)) (sym s) ∙ drop-append-add front (drop (tokenSize * i) out) (tokenSize * length v)
+    ∙ drop-drop (tokenSize * length v) (tokenSize * i) out ∙ ap (λ (x : ℕ). drop x out) z
+    in
+    record {
+      is = k .is ∙ rw (t, d, token-bytes-append u v, append-assoc (take (tokenSize * at) out) (tokenBytes u) (tokenBytes v));
+      count = omega (arith, length-append u v, h .count, k .count);
+    }

@@ -1,0 +1,5 @@
+-- Laws: tokens written one behind the other; the leaves of a node list; the new sentence; what its parse stands on.
+pub mod Adding
+pub mod Leaves
+pub mod Forming
+pub mod Grounding
