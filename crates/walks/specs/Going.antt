@@ -10,8 +10,9 @@ use Rattle.grammar.specs.Each.{Each, each-head, each-tail}
 use Rattle.grammar.specs.Grammar.{Grammar}
 use Rattle.trees.specs.Area.{Distinct}
 use Rattle.trees.specs.Nodes.{Node}
+use Rattle.trees.specs.Spread.{slotsOf}
 use Rattle.walks.specs.Frames.{Frame, Within, Stands, Walks, stands-one, stands-some, stands-slot}
-use Rattle.walks.specs.Marks.{slotsOf, Marked, marked-twice}
+use Rattle.walks.specs.Marks.{Marked, marked-twice}
 
 -- siblings wait in the frame
 pub record Waits (f : Frame) : Type 0 where

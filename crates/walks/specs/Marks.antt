@@ -12,11 +12,8 @@ use Rattle.base.specs.Blocks.{zeros, byte-zeros}
 use Rattle.grammar.specs.Each.{Each}
 use Rattle.trees.specs.Area.{Distinct}
 use Rattle.trees.specs.Nodes.{Node}
+use Rattle.trees.specs.Spread.{slotsOf}
 use Rattle.walks.specs.Frames.{Within}
-
-abbrev pub slotsOf : List Node → List ℕ
-slotsOf [] = []
-slotsOf (e ∷ es) = e .slot ∷ slotsOf es
 
 pub slots-append : (es fs : List Node) → slotsOf (es ++ fs) ≡ slotsOf es ++ slotsOf fs
 slots-append [] fs = refl

@@ -12,9 +12,10 @@ use Rattle.grammar.specs.Grammar.{Grammar}
 use Rattle.grammar.specs.Forest.{Forest, size, yield, Derives}
 use Rattle.trees.specs.Area.{slotSize, maxSlots, areaSize, headerBytes, slotAt, top, slots, Distinct, Linked, Area, Valid}
 use Rattle.trees.specs.Nodes.{Node, preorder}
+use Rattle.trees.specs.Spread.{slotsOf}
 use Rattle.trees.specs.Slots.{slot-byte}
 use Rattle.walks.specs.Frames.{Frame, frame, Within, Walks, Grown, walks-grown, linked-walks, linked-one, rule-positive, top-small}
-use Rattle.walks.specs.Marks.{slotsOf, slots-append, pigeon}
+use Rattle.walks.specs.Marks.{slots-append, pigeon}
 
 -- a leaf counts 1
 abbrev pub leafOf : ℕ → ℕ
