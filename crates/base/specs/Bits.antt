@@ -6,7 +6,7 @@ use lib.Pow.{pow-lt}
 use native.Mathlib.Nat.{mod-eq-of-lt, pow-suc, pow-succ', div-div-eq-div-mul}
 use native.Mathlib.Decide.{ℕ-discrete}
 use native.Mathlib.Omega.{arith}
-use lib.Bits.{bitOr, or-step, or-add-and, and-le-r}
+use lib.Bits.{bitOr, bitXor, or-step, xor-add-and, xor-self, or-add-and, and-le-l, and-le-r}
 
 -- bit i of m, 0 or 1
 unfoldable pub bit : ℕ → ℕ → ℕ
@@ -54,6 +54,30 @@ bit-zero (suc i) = bit-zero i
 
 pub none-has : (i : ℕ) → Has 0 i → ⊥
 none-has i h = omega (arith, h .is, bit-zero i)
+
+-- r is 0 exactly if x and y are
+pub record Dark (x y r : ℕ) : Type 0 where
+  pub both : r ≡ 0 → (x ≡ 0) × (y ≡ 0)
+  pub none : x ≡ 0 → y ≡ 0 → r ≡ 0
+
+pub or-dark : (x y : ℕ) → Dark x y (bitOr x y)
+or-dark x y =
+    record {
+      both = λ e. (omega (arith, or-grows x y), omega (arith, or-add-and x y, and-le-l x y));
+      none = λ d e. omega (arith, or-add-and x y);
+    }
+
+-- r is 0 exactly if x is y
+pub record Level (x y r : ℕ) : Type 0 where
+  pub same : r ≡ 0 → x ≡ y
+  pub none : x ≡ y → r ≡ 0
+
+pub xor-level : (x y : ℕ) → Level x y (bitXor x y)
+xor-level x y =
+    record {
+      same = λ e. omega (arith, xor-add-and x y, and-le-l x y, and-le-r x y);
+      none = λ e. rw e (xor-self y);
+    }
 
 -- one number alone
 

@@ -1,5 +1,5 @@
 -- Runs of bytes: zeros, a copy, a comparison. Each loop's turn and end, with the premises as the code has them.
-use Prim.Native.Nat.{ℕ, zero, suc, _+_, _-_, _≤_, _<_, min}
+use Prim.Native.Nat.{ℕ, zero, suc, _+_, _-_, _*_, _≤_, _<_, min}
 use mathlib.Core.Bool.{false}
 use mathlib.Core.Path.{_≡_, refl, sym, ap, _∙_}
 use mathlib.Core.Logic.{by-cases}
@@ -11,8 +11,9 @@ use borrow.Author.Fill.{fill-more}
 use lib.Seq.{drop-length, take-all, take-length, take-append-seam, drop-append-add, ext-getD, paste, paste-zero, paste-suc}
 use lib.Dec.{eqb}
 use borrow.Author.Tests.{eqb-true, eqb-false}
-use native.Mathlib.Decide.{ℕ-discrete}
+use native.Mathlib.Decide.{ℕ-discrete, decLt}
 use native.Mathlib.Omega.{arith}
+use Rattle.base.specs.Bits.{Dark, Level}
 use Rattle.base.specs.Tells.{Tells, tells-no}
 
 -- n zeros; shut, so that no long run is ever written out
@@ -105,12 +106,11 @@ pub record Alike (a b : List ℕ) (i acc : ℕ) : Type 0 where
 pub alike-none : (a b : List ℕ) → Alike a b 0 0
 alike-none a b = record { yes = λ _ k l. absurd (omega arith); no = λ n _. n refl }
 
-pub alike-more : (a b : List ℕ) (i acc acc' : ℕ) → (acc' ≡ 0 → (acc ≡ 0) × (getD a i 0 ≡ getD b i 0)) × (acc ≡ 0 → getD a i 0 ≡ getD b i 0 → acc' ≡ 0)
-    → Alike a b i acc → Alike a b (i + 1) acc'
-alike-more a b i acc acc' w h =
+pub alike-more : (a b : List ℕ) (i acc d acc' : ℕ) → Level (getD a i 0) (getD b i 0) d → Dark acc d acc' → Alike a b i acc → Alike a b (i + 1) acc'
+alike-more a b i acc d acc' l w h =
     record {
-      yes = λ e. below-more (λ k. getD a k 0 ≡ getD b k 0) i (h .yes (w .0 e .0)) (w .0 e .1);
-      no = λ n e. by-cases (ℕ-discrete acc 0) (λ z. n (w .1 z (ap (λ (l : List ℕ). getD l i 0) e))) (λ z. h .no z e);
+      yes = λ e. let x = w .both e in below-more (λ k. getD a k 0 ≡ getD b k 0) i (h .yes (x .0)) (l .same (x .1));
+      no = λ n e. by-cases (ℕ-discrete acc 0) (λ z. n (w .none z (l .none (ap (λ (u : List ℕ). getD u i 0) e)))) (λ z. h .no z e);
     }
 
 pub alike-told : (a b : List ℕ) (i acc : ℕ) → length a ≡ length b → length a ≤ i → Alike a b i acc → Tells (a ≡ b) (eqb acc 0)
@@ -120,12 +120,52 @@ alike-told a b i acc n l h =
 pub same-longer : (a b : List ℕ) → (length a ≡ length b → ⊥) → Tells (a ≡ b) false
 same-longer a b n = tells-no (λ e. n (ap length e))
 
--- where every byte is compared with 0
-pub zeros-more : (a : List ℕ) (m i acc acc' : ℕ) → (acc' ≡ 0 → (acc ≡ 0) × (getD a i 0 ≡ 0)) × (acc ≡ 0 → getD a i 0 ≡ 0 → acc' ≡ 0)
-    → Alike a (zeros m) i acc → Alike a (zeros m) (i + 1) acc'
-zeros-more a m i acc acc' w h = alike-more a (zeros m) i acc acc' (rw (byte-zeros m i) w) h
+-- the bytes at k in four runs of h side by side are 0
+abbrev Four : List ℕ → ℕ → ℕ → Type 0
+Four a h k = (getD a k 0 ≡ 0) × (getD a (h + k) 0 ≡ 0) × (getD a (2 * h + k) 0 ≡ 0) × (getD a (3 * h + k) 0 ≡ 0)
 
-pub zeros-told : (a : List ℕ) (i acc : ℕ) → length a ≤ i → Alike a (zeros (length a)) i acc → Tells (a ≡ zeros (length a)) (eqb acc 0)
-zeros-told a i acc l h = alike-told a (zeros (length a)) i acc (sym (length-zeros (length a))) l h
+-- the first i of each run are 0 exactly if acc is
+pub record Clear (a : List ℕ) (h i acc : ℕ) : Type 0 where
+  pub yes : acc ≡ 0 → (k : ℕ) → k < i → Four a h k
+  pub no : (acc ≡ 0 → ⊥) → a ≡ zeros (length a) → ⊥
 
-pub ruleset comparing = (alike-none, alike-told, same-longer, zeros-told)
+module _ (a : List ℕ) where
+  byte-zero : (i : ℕ) → a ≡ zeros (length a) → getD a i 0 ≡ 0
+  byte-zero i e = ap (λ (l : List ℕ). getD l i 0) e ∙ byte-zeros (length a) i
+
+  pub clear-none : (h : ℕ) → Clear a h 0 0
+  clear-none h = record { yes = λ _ k l. absurd (omega arith); no = λ n _. n refl }
+
+  pub clear-more : (h i acc left right four acc' : ℕ) → Dark (getD a i 0) (getD a (h + i) 0) left → Dark (getD a (2 * h + i) 0) (getD a (3 * h + i) 0) right
+      → Dark left right four → Dark acc four acc' → Clear a h i acc → Clear a h (i + 1) acc'
+  clear-more h i acc left right four acc' l r f d c =
+      record {
+        yes = λ e. let x = d .both e in
+            let y = f .both (x .1) in
+            let u = l .both (y .0) in
+            let v = r .both (y .1) in
+            below-more (Four a h) i (c .yes (x .0)) (u .0, u .1, v .0, v .1);
+        no = λ n e. by-cases (ℕ-discrete acc 0)
+            (λ z. n (d .none z (f .none (l .none (byte-zero i e) (byte-zero (h + i) e)) (r .none (byte-zero (2 * h + i) e) (byte-zero (3 * h + i) e)))))
+            (λ z. c .no z e);
+      }
+
+  pub clear-all : (h i acc : ℕ) → h ≤ i → Clear a h i acc → Alike a (zeros (length a)) (4 * h) acc
+  clear-all h i acc l c = record { yes = λ e k m. at e k m ∙ sym (byte-zeros (length a) k); no = c .no }
+    where
+      at : acc ≡ 0 → (k : ℕ) → k < 4 * h → getD a k 0 ≡ 0
+      at e k m =
+          by-cases (decLt k h) (λ u. c .yes e k (omega arith) .0)
+          (λ u. by-cases (decLt k (2 * h)) (λ v. let z : h + (k - h) ≡ k = omega arith in rw z at (c .yes e (k - h) (omega arith) .1))
+          (λ v. by-cases (decLt k (3 * h)) (λ w. let z : 2 * h + (k - 2 * h) ≡ k = omega arith in rw z at (c .yes e (k - 2 * h) (omega arith) .2))
+          (λ w. let z : 3 * h + (k - 3 * h) ≡ k = omega arith in rw z at (c .yes e (k - 3 * h) (omega arith) .3))))
+
+  pub zeros-more : (i acc acc' : ℕ) → Dark acc (getD a i 0) acc' → Alike a (zeros (length a)) i acc → Alike a (zeros (length a)) (i + 1) acc'
+  zeros-more i acc acc' d h =
+      let z = byte-zeros (length a) i in
+      alike-more a (zeros (length a)) i acc (getD a i 0) acc' (record { same = λ e. e ∙ sym z; none = λ e. e ∙ z }) d h
+
+  pub zeros-told : (i acc : ℕ) → length a ≤ i → Alike a (zeros (length a)) i acc → Tells (a ≡ zeros (length a)) (eqb acc 0)
+  zeros-told i acc l h = alike-told a (zeros (length a)) i acc (sym (length-zeros (length a))) l h
+
+pub ruleset comparing = (alike-none, alike-told, same-longer, zeros-told, clear-none, clear-all)

@@ -1,9 +1,10 @@
-// Bytes and runs of bytes. No function asks anything of its caller: a read beyond the end gives 0, and a write there changes nothing.
+// Bytes and runs of bytes. A read beyond the end gives 0, and a write there changes nothing, but for `two`, `four` and `put_two`, which ask to stay inside.
 ghost use mathlib.Core.Path.{_≡_};
-ghost use Prim.Native.Nat.{_^_, _<_, min};
+ghost use Prim.Native.Nat.{_+_, _*_, _^_, _<_, _≤_, min};
 ghost use lib.ListN.{length, set};
 ghost use Rattle.base.specs.Bytes.{byteAt, get16 as get16m, get32 as get32m, put16 as put16m};
-ghost use Rattle.base.specs.Blocks.{zeros, copied};
+ghost use Rattle.base.specs.Bits.{Dark, Level};
+ghost use Rattle.base.specs.Blocks.{zeros, copied, Alike};
 ghost use Rattle.base.specs.Tells.{Tells};
 
 // A byte as a number to compute with.
@@ -70,6 +71,29 @@ pub fn put16(b: &mut [u8], at: usize, v: u16)
     }
 }
 
+// The same inside the bytes: one bound for all, so that they are read or written at once.
+pub fn two(b: &[u8], at: usize) -> usize
+    requires { ⌜ at + 2 ≤ length (now b) ⌝ }
+    ensures { λ r. ⌜ (r ≡ get16m (now (b .entry)) at) × (r < 65536) ⌝ }
+{
+    wide(b[at]) + 256 * wide(b[at + 1])
+}
+
+pub fn four(b: &[u8], at: usize) -> usize
+    requires { ⌜ at + 4 ≤ length (now b) ⌝ }
+    ensures { λ r. ⌜ (r ≡ get32m (now (b .entry)) at) × (r < 2 ^ 32) ⌝ }
+{
+    wide(b[at]) + 256 * (wide(b[at + 1]) + 256 * (wide(b[at + 2]) + 256 * wide(b[at + 3])))
+}
+
+pub fn put_two(b: &mut [u8], at: usize, v: usize)
+    requires { ⌜ (at + 2 ≤ length (now b)) × (v < 65536) ⌝ }
+    ensures { λ _. ⌜ now (b .exit) ≡ put16m (now (b .entry)) at v ⌝ }
+{
+    b[at] = (v % 256) as u8;
+    b[at + 1] = (v / 256) as u8;
+}
+
 pub fn zero(w: &mut [u8])
     ensures { λ _. ⌜ now (w .exit) ≡ zeros (length (now (w .entry))) ⌝ }
 {
@@ -104,14 +128,17 @@ pub fn copy(dst: &mut [u8], at: usize, src: &[u8])
     }
 }
 
-// `acc` where x and y are equal, else 1.
-fn odd_out(acc: u8, x: u8, y: u8) -> u8
-    ensures { λ r. ⌜ (r ≡ 0 → (acc ≡ 0) × (x ≡ y)) × (acc ≡ 0 → x ≡ y → r ≡ 0) ⌝ }
+// Bits that are lit in either; bits that differ.
+fn either(x: u8, y: u8) -> u8
+    ensures { λ r. ⌜ Dark x y r ⌝ }
 {
-    if x == y {
-        return acc;
-    }
-    1
+    x | y
+}
+
+fn differ(x: u8, y: u8) -> u8
+    ensures { λ r. ⌜ Level x y r ⌝ }
+{
+    x ^ y
 }
 
 // Whether the bytes are the same. No way out of the loop, so that it runs on many bytes at once.
@@ -124,20 +151,37 @@ pub fn same(a: &[u8], b: &[u8]) -> bool
     let mut acc: u8 = 0;
     let mut i = 0;
     while i < a.len() {
-        acc = odd_out(acc, a[i], b[i]);
+        acc = either(acc, differ(a[i], b[i]));
         i += 1;
     }
     acc == 0
+}
+
+// 0 exactly if the first 4·h bytes are all 0: four runs of h side by side, so that more bytes are read at once.
+fn four_runs(a: &[u8], h: usize) -> u8
+    requires { ⌜ 4 * h ≤ length (now a) ⌝ }
+    ensures { λ r. ⌜ Alike (now (a .entry)) (zeros (length (now (a .entry)))) (4 * h) r ⌝ }
+{
+    let mut acc: u8 = 0;
+    let mut i = 0;
+    while i < h {
+        let left = either(a[i], a[h + i]);
+        let right = either(a[2 * h + i], a[3 * h + i]);
+        acc = either(acc, either(left, right));
+        i += 1;
+    }
+    acc
 }
 
 // Whether the bytes are all 0.
 pub fn all_zero(a: &[u8]) -> bool
     ensures { λ r. ⌜ Tells (now (a .entry) ≡ zeros (length (now (a .entry)))) r ⌝ }
 {
-    let mut acc: u8 = 0;
-    let mut i = 0;
+    let h = a.len() / 64 * 16;
+    let mut acc = four_runs(a, h);
+    let mut i = 4 * h;
     while i < a.len() {
-        acc = odd_out(acc, a[i], 0);
+        acc = either(acc, a[i]);
         i += 1;
     }
     acc == 0

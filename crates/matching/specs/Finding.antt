@@ -10,8 +10,7 @@ use native.Mathlib.Omega.{arith}
 use Rattle.base.specs.Choose.{never}
 use Rattle.grammar.specs.Forest.{Forest, size, yield}
 use Rattle.trees.specs.Nodes.{Node as Entry, leavesOf, leaves-yield}
-use Rattle.trees.specs.Coded.{nodeAt, nodesFrom}
-use Rattle.plain.specs.Machine.{length-nodes}
+use Rattle.trees.specs.Coded.{nodeAt, nodesFrom, length-nodes}
 use Rattle.edits.specs.Keeping.{Edit, Kept, Node}
 use Rattle.edits.specs.Places.{at-number, at-leaves}
 use Rattle.matching.specs.Measure.{treeIn, Built, built-size}

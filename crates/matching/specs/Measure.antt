@@ -11,9 +11,8 @@ use Rattle.base.specs.Choose.{never}
 use Rattle.grammar.specs.Rows.{lengthAt}
 use Rattle.grammar.specs.Forest.{Forest, size, yield}
 use Rattle.trees.specs.Nodes.{Node as Entry, preorder, trees, build, Formed}
-use Rattle.trees.specs.Coded.{nodeAt, nodesFrom, arityIn}
+use Rattle.trees.specs.Coded.{nodeAt, nodesFrom, length-nodes, arityIn}
 use Rattle.trees.specs.Spread.{size-build}
-use Rattle.plain.specs.Machine.{length-nodes}
 use Rattle.edits.specs.Keeping.{symbol, own, production, below, beside, At, Node}
 use Rattle.edits.specs.Places.{treeSize, at-number, at-some, at-one, Numbered, at-node, at-first, at-next, Listed, at-listed}
 

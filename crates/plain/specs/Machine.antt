@@ -4,7 +4,7 @@ use mathlib.Core.Path.{_≡_, refl, sym, ap, _∙_, subst}
 use mathlib.Core.Logic.{_⊎_, inl, inr, by-cases}
 use mathlib.Core.Bool.{false}
 use mathlib.Core.List.{List, [], _∷_, _++_}
-use lib.ListN.{length, getD, set, drop, length-append, length-drop, length-set, drop-of-length-le}
+use lib.ListN.{length, set, drop, length-drop, length-set, drop-of-length-le}
 use lib.Seq.{drop-cons, ext-getD, getD-drop, getD-set-same}
 use lib.Dec.{eqb}
 use lib.Bits.{bitOr, or-lt}
@@ -12,26 +12,25 @@ use lib.Pow.{pow-lt}
 use borrow.Author.Tests.{eq-eqb, ne-eqb, eqb-true, eqb-false}
 use native.Mathlib.Nat.{pow-succ'}
 use native.Mathlib.Numerals.{add-one}
-use native.Mathlib.Decide.{decLt, ℕ-discrete}
+use native.Mathlib.Decide.{ℕ-discrete}
 use native.Mathlib.Omega.{arith}
 use Rattle.base.specs.Bytes.{byteAt, get32, byte-out}
 use Rattle.base.specs.Bits.{Has, none-has, one-has, has-one, or-has, has-or-left, has-or-right, shift-one}
 use Rattle.base.specs.Choose.{never, choose, choose-of}
 use Rattle.base.specs.Filled.{Filled}
-use Rattle.grammar.specs.Limits.{endMark, maxTerminals, maxNonterminals, columns}
+use Rattle.grammar.specs.Limits.{maxTerminals, maxNonterminals, columns}
 use Rattle.grammar.specs.Each.{Each, each-join}
 use Rattle.grammar.specs.Grammar.{Grammar, Rule, Terminal, SymbolOf}
-use Rattle.grammar.specs.Rules.{rule-allowed, rule-left}
+use Rattle.grammar.specs.Rules.{rule-allowed}
 use Rattle.grammar.specs.Prediction.{Predicts, by-first, by-follow, Prepared}
-use Rattle.grammar.specs.Forest.{Token}
 use Rattle.grammar.specs.Rows.{lengthAt, symbolAt, symbolsFrom, grammarIn}
 use Rattle.grammar.specs.RowRules.{bodyAt, RowOf, rule-row}
 use Rattle.predictions.specs.Verdict.{predictor-small}
-use Rattle.tables.specs.Tables.{rowSymbol, predictionPlace, Prediction, some, none, Tables}
+use Rattle.tables.specs.Tables.{Prediction, some, none, Tables}
 use Rattle.trees.specs.Nodes.{Node, Lists, leavesOf}
-use Rattle.trees.specs.Coded.{nodeSize, nodeAt, nodesFrom}
+use Rattle.trees.specs.Coded.{nodeSize, nodesFrom, length-nodes}
 use Rattle.trees.specs.Listing.{nodeOf, Put, nodes-kept, put-last}
-use Rattle.plain.specs.Plain.{ahead, Verdict, accepted, syntax, noRoom, Expects, prediction, itself, end, Expected, Runs, crowded, stuck, Parses}
+use Rattle.plain.specs.Plain.{ahead, accepted, syntax, noRoom, Expects, prediction, itself, end, crowded, stuck, Parses}
 use Rattle.plain.specs.One.{no-rule}
 use Rattle.plain.specs.Tokens.{tokenSize, tokenAt, tokensFrom, Kinds}
 use Rattle.plain.specs.Parsing.{Parsing, parsing-start, parsing-match, parsing-expand, parsing-end}
@@ -44,10 +43,6 @@ pub data Numbered : ℕ → List Node → Type 0 where
 numbered-last : {s : ℕ} {es : List Node} (e : Node) → e .slot ≡ s + length es → Numbered s es → Numbered s (es ++ (e ∷ []))
 numbered-last {s} e q Numbered.nil = let z : e .slot ≡ s = omega (arith, q) in Numbered.cons z Numbered.nil
 numbered-last {s} e q (Numbered.cons {es = es} z h) = let y : e .slot ≡ s + 1 + length es = omega (arith, q) in Numbered.cons z (numbered-last e y h)
-
-pub length-nodes : (w : List ℕ) (k i : ℕ) → length (nodesFrom w k i) ≡ k
-length-nodes w zero i = refl
-length-nodes w (suc k) i = ap suc (length-nodes w k (i + 1))
 
 -- the bits of e are the lookaheads with a prediction in row R
 pub record Lit (table : List ℕ) (R e : ℕ) : Type 0 where

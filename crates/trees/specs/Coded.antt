@@ -1,8 +1,8 @@
 -- The node list in bytes: eight for each node, its symbol, production, slot (2) and tag (4).
-use Prim.Native.Nat.{ℕ, zero, suc, _+_, _-_, _*_, _≤_, _<_}
-use mathlib.Core.Path.{_≡_}
+use Prim.Native.Nat.{ℕ, zero, suc, _+_, _-_, _*_}
+use mathlib.Core.Path.{_≡_, refl, ap}
 use mathlib.Core.List.{List, [], _∷_, _++_}
-use lib.ListN.{length, getD}
+use lib.ListN.{length}
 use Rattle.base.specs.Bytes.{byteAt, get16, get32, leBytes}
 use Rattle.grammar.specs.Rows.{lengthAt}
 use Rattle.trees.specs.Nodes.{Node}
@@ -26,6 +26,10 @@ nodeAt w i = record {
 abbrev pub nodesFrom : List ℕ → ℕ → ℕ → List Node
 nodesFrom w zero i = []
 nodesFrom w (suc k) i = nodeAt w i ∷ nodesFrom w k (i + 1)
+
+pub length-nodes : (w : List ℕ) (k i : ℕ) → length (nodesFrom w k i) ≡ k
+length-nodes w zero i = refl
+length-nodes w (suc k) i = ap suc (length-nodes w k (i + 1))
 
 -- how many children the production has whose row is among these
 unfoldable pub arityIn : List ℕ → ℕ → ℕ

@@ -10,7 +10,7 @@ use Rattle.grammar.specs.Forest.{Forest, size, yield}
 use Rattle.trees.specs.Area.{slotSize, maxSlots, areaSize, tagSpace, slotAt, slotBytes, headerBytes, top, slots, Distinct, Linked, Area}
 use Rattle.trees.specs.Nodes.{Node, trees, front, back, above, build, Fed}
 use Rattle.grammar.specs.Rows.{lengthAt}
-use Rattle.trees.specs.Coded.{nodeAt, nodesFrom, arityIn}
+use Rattle.trees.specs.Coded.{nodeAt, nodesFrom, length-nodes, arityIn}
 use Rattle.trees.specs.Listing.{nodeOf}
 use Rattle.trees.specs.Spread.{slotsOf, Spread, slots-parts, above-leaf, above-inner, tokens-inner, slots-build, size-build}
 use Rattle.trees.specs.Members.{each-mem}
@@ -140,10 +140,6 @@ module _ (ar : ℕ → ℕ) (e : Node) (head s x p : ℕ) (b b' : List ℕ) (is-
 pub arity-at : (rows : List ℕ) (k p q : ℕ) → p ≡ q → k ≡ lengthAt rows (p - 1) → k ≡ arityIn rows q
 unfolding arityIn
 arity-at rows k p q e h = rw (← e) h
-
-length-nodes : (w : List ℕ) (k i : ℕ) → length (nodesFrom w k i) ≡ k
-length-nodes w zero i = refl
-length-nodes w (suc k) i = ap suc (length-nodes w k (i + 1))
 
 -- what holds of a list's rest where it holds of the list, holds of the nodes from node i on
 nodes-behind : (P : List Node → Type 0) → ((e : Node) (es : List Node) → P (e ∷ es) → P es) → (w : List ℕ) (i k j : ℕ) → P (nodesFrom w (i + k) j) → P (nodesFrom w k (j + i))

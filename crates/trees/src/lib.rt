@@ -3,7 +3,7 @@ ghost use mathlib.Core.Path.{_≡_};
 ghost use Prim.Native.Nat.{_+_, _-_, _*_, _<_, _≤_};
 ghost use lib.ListN.{length};
 ghost use Rattle.trees.specs.Area.{slotSize, maxSlots, areaSize, tagSpace, slotBytes, headerBytes, Area};
-ghost use Rattle.base.specs.Bytes.{byteAt, get16, put16, get32};
+ghost use Rattle.base.specs.Bytes.{byteAt, get16, put16};
 ghost use Rattle.base.specs.Filled.{Filled};
 ghost use Rattle.trees.specs.Coded.{nodeSize, nodeBytes, nodeAt, nodesFrom, arityIn};
 ghost use Rattle.trees.specs.Nodes.{build, Fed};
@@ -69,12 +69,7 @@ pub fn tag_of(nodes: &[u8], i: usize) -> usize
     if nodes.len() / NODE_SIZE < i {
         return 0;
     }
-    let at = NODE_SIZE * i + 4;
-    let a = base::byte_at(nodes, at);
-    let b = base::byte_at(nodes, at + 1);
-    let c = base::byte_at(nodes, at + 2);
-    let d = base::byte_at(nodes, at + 3);
-    a + 256 * (b + 256 * (c + 256 * d))
+    base::get32(nodes, NODE_SIZE * i + 4)
 }
 
 // Writes `src`, n bytes, from `at` on.
@@ -122,36 +117,12 @@ pub fn put_node(
     put_bytes(nodes, NODE_SIZE * i, &bytes, NODE_SIZE);
 }
 
-// The two-byte and the four-byte number at `at`.
-fn pair(b: &[u8], at: usize) -> usize
-    requires { ⌜ at + 1 < length (now b) ⌝ }
-    ensures { λ r. ⌜ (r ≡ get16 (now (b .entry)) at) × (r < 65536) ⌝ }
-{
-    base::wide(b[at]) + 256 * base::wide(b[at + 1])
-}
-
-fn quad(b: &[u8], at: usize) -> usize
-    requires { ⌜ at + 3 < length (now b) ⌝ }
-    ensures { λ r. ⌜ (r ≡ get32 (now (b .entry)) at) × (r < tagSpace) ⌝ }
-{
-    let c = base::wide(b[at + 2]) + 256 * base::wide(b[at + 3]);
-    base::wide(b[at]) + 256 * (base::wide(b[at + 1]) + 256 * c)
-}
-
-fn put_pair(b: &mut [u8], at: usize, v: usize)
-    requires { ⌜ (at + 1 < length (now b)) × (v < 65536) ⌝ }
-    ensures { λ _. ⌜ now (b .exit) ≡ put16 (now (b .entry)) at v ⌝ }
-{
-    b[at] = (v % 256) as u8;
-    b[at + 1] = (v / 256) as u8;
-}
-
 // Gives node i another slot.
 pub fn set_slot(nodes: &mut [u8], i: usize, slot: usize)
     requires { ⌜ (nodeSize * i + nodeSize ≤ length (now nodes)) × (slot < 65536) ⌝ }
     ensures { λ _. ⌜ Put (now (nodes .entry)) i (inSlot slot (nodeAt (now (nodes .entry)) i)) (now (nodes .exit)) ⌝ }
 {
-    put_pair(nodes, NODE_SIZE * i + 2, slot);
+    base::put_two(nodes, NODE_SIZE * i + 2, slot);
 }
 
 // The bytes of a slot with no parent.
@@ -201,8 +172,8 @@ fn hang(area: &mut [u8], s: usize, parent: usize) -> usize
     requires { ⌜ (slotSize * s + slotSize ≤ length (now area)) × (parent < 65536) ⌝ }
     ensures { λ r. ⌜ (now (area .exit) ≡ put16 (now (area .entry)) (slotSize * s + parentPlace) parent) × (r ≡ get16 (now (area .exit)) (slotSize * s + nextPlace)) × (r < 65536) ⌝ }
 {
-    put_pair(area, SLOT_SIZE * s + PARENT, parent);
-    pair(area, SLOT_SIZE * s + NEXT)
+    base::put_two(area, SLOT_SIZE * s + PARENT, parent);
+    base::two(area, SLOT_SIZE * s + NEXT)
 }
 
 // Sets the parent of k trees, the first one at `head`, cuts the last one from the tree behind it, and answers that tree's slot.
@@ -217,7 +188,7 @@ fn adopt(area: &mut [u8], parent: usize, head: usize, k: usize) -> usize
         more -= 1;
     }
     let next = hang(area, s, parent);
-    put_pair(area, SLOT_SIZE * s + NEXT, 0);
+    base::put_two(area, SLOT_SIZE * s + NEXT, 0);
     next
 }
 
@@ -229,9 +200,9 @@ fn lay_node(nodes: &[u8], i: usize, rows: &[u8], head: usize, area: &mut [u8]) -
     let at = NODE_SIZE * i;
     let symbol = base::wide(nodes[at]);
     let production = base::wide(nodes[at + 1]);
-    let s = pair(nodes, at + 2);
+    let s = base::two(nodes, at + 2);
     if production == 0 {
-        put_slot(area, s, symbol, 0, 0, head, quad(nodes, at + 4));
+        put_slot(area, s, symbol, 0, 0, head, base::four(nodes, at + 4));
         return s;
     }
     let k = grammar::length_at(rows, production - 1);

@@ -16,7 +16,7 @@ use Rattle.grammar.specs.Grammar.{Grammar}
 use Rattle.grammar.specs.Forest.{size}
 use Rattle.trees.specs.Area.{slotSize, maxSlots, areaSize, headerBytes, slotAt, Valid}
 use Rattle.trees.specs.Nodes.{preorder}
-use Rattle.trees.specs.Coded.{nodesFrom}
+use Rattle.trees.specs.Coded.{nodesFrom, length-nodes}
 use Rattle.trees.specs.Slots.{slot-byte, slot-is}
 use Rattle.walks.specs.declared.Walked.{Walked}
 use Rattle.walks.specs.declared.Walked.the-variants.{Tree, NoTree}
@@ -25,7 +25,7 @@ use Rattle.walks.specs.declared.Course.the-variants.{Through, Astray}
 use Rattle.walks.specs.Slots.{Known, sixteen}
 use Rattle.walks.specs.Going.{going-end, going-one}
 use Rattle.walks.specs.Reading.{leavesOf, leaves-few, Free, found-valid, valid-few, valid-found, size-preorder}
-use Rattle.walks.specs.Walking.{length-nodes, gram, Walking, Wandered}
+use Rattle.walks.specs.Walking.{gram, Walking, Wandered}
 
 -- ---- the header
 

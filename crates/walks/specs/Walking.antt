@@ -10,21 +10,17 @@ use Rattle.base.specs.Blocks.{zeros}
 use Rattle.grammar.specs.Grammar.{Grammar}
 use Rattle.grammar.specs.Rows.{grammarIn}
 use Rattle.trees.specs.Nodes.{Node}
-use Rattle.trees.specs.Coded.{nodeSize, nodeAt, nodesFrom}
+use Rattle.trees.specs.Coded.{nodeSize, nodeAt, nodesFrom, length-nodes}
 use Rattle.walks.specs.declared.Step.{Step}
 use Rattle.walks.specs.declared.Step.the-variants.{On, Stop}
 use Rattle.walks.specs.declared.Course.{Course}
 use Rattle.walks.specs.declared.Course.the-variants.{Through, Astray}
-use Rattle.walks.specs.Frames.{Frame, frame, stands-slot}
+use Rattle.walks.specs.Frames.{Frame, stands-slot}
 use Rattle.walks.specs.Marks.{Marked, marked-none, marked-more}
 use Rattle.walks.specs.Going.{Waits, Going, Lost, going-start, going-turn, lost-stuck, lost-zero, lost-over, lost-full, lost-marked}
 use Rattle.walks.specs.Reading.{leafOf, leavesOf, leaves-append, rootFrame}
 use Rattle.walks.specs.Stacked.{placeOf, bodyOf, frameAt, framesIn, Framed}
 use Rattle.walks.specs.Turning.{Turned}
-
-pub length-nodes : (w : List ℕ) (k i : ℕ) → length (nodesFrom w k i) ≡ k
-length-nodes w zero i = refl
-length-nodes w (suc k) i = ap suc (length-nodes w k (i + 1))
 
 module _ (rows : List ℕ) (t n start count S : ℕ) (b : List ℕ) where
   abbrev pub gram : Grammar

@@ -4,10 +4,10 @@
 ghost use mathlib.Core.Path.{_≡_};
 ghost use Prim.Native.Nat.{_+_, _*_, _<_, _≤_};
 ghost use lib.ListN.{length};
-ghost use Rattle.base.specs.Bytes.{byteAt, get16, get32, put16};
+ghost use Rattle.base.specs.Bytes.{byteAt, get16};
 ghost use Rattle.base.specs.Tells.{Tells};
 ghost use Rattle.grammar.specs.Rows.{bodySpace, grammarIn};
-ghost use Rattle.trees.specs.Area.{slotSize, maxSlots, areaSize, tagSpace};
+ghost use Rattle.trees.specs.Area.{slotSize, maxSlots, areaSize};
 ghost use Rattle.walks.specs.Slots.{Used};
 ghost use Rattle.walks.specs.Frames.{Within};
 ghost use Rattle.walks.specs.Reading.{leafOf};
@@ -36,24 +36,6 @@ enum Step {
 enum Course {
     Through(usize, usize),
     Astray,
-}
-
-// The two-byte number at `at`.
-fn two(b: &[u8], at: usize) -> usize
-    requires { ⌜ at + 2 ≤ length (now b) ⌝ }
-    ensures { λ r. ⌜ (r ≡ get16 (now (b .entry)) at) × (r < 65536) ⌝ }
-{
-    base::wide(b[at]) + 256 * base::wide(b[at + 1])
-}
-
-// The four-byte number at `at`.
-fn four(b: &[u8], at: usize) -> usize
-    requires { ⌜ at + 4 ≤ length (now b) ⌝ }
-    ensures { λ r. ⌜ (r ≡ get32 (now (b .entry)) at) × (r < tagSpace) ⌝ }
-{
-    base::wide(b[at])
-        + 256
-            * (base::wide(b[at + 1]) + 256 * (base::wide(b[at + 2]) + 256 * base::wide(b[at + 3])))
 }
 
 // Whether slot s has a used slot's mark and zeros.
@@ -112,7 +94,7 @@ fn judge(area: &[u8], rows: &[u8], t: usize, count: usize, s: usize, par: usize,
         if base::wide(area[at + 2]) != x {
             return grammar::BODY_SPACE;
         }
-        if two(area, at + 4) != par {
+        if base::two(area, at + 4) != par {
             return grammar::BODY_SPACE;
         }
         return kin(
@@ -121,7 +103,7 @@ fn judge(area: &[u8], rows: &[u8], t: usize, count: usize, s: usize, par: usize,
             count,
             x,
             base::wide(area[at + 3]),
-            four(area, at + 10),
+            base::four(area, at + 10),
         );
     }
     grammar::BODY_SPACE
@@ -148,22 +130,13 @@ fn symbol_of(rows: &[u8], start: usize, p: usize, j: usize) -> usize
     grammar::symbol_at(rows, p - 1, j)
 }
 
-// Writes v as the two-byte number at `at`.
-fn put_two(w: &mut [u8], at: usize, v: usize)
-    requires { ⌜ (at + 2 ≤ length (now w)) × (v < 65536) ⌝ }
-    ensures { λ _. ⌜ now (w .exit) ≡ put16 (now (w .entry)) at v ⌝ }
-{
-    w[at] = (v % 256) as u8;
-    w[at + 1] = (v / 256) as u8;
-}
-
 // Writes a frame.
 fn put_frame(w: &mut [u8], at: usize, s: usize, par: usize, p: usize, j: usize)
     requires { ⌜ (at + frameSize ≤ length (now w)) × (s < 65536) × (par < 65536) × (p < 256) × (j < 256) ⌝ }
     ensures { λ _. ⌜ Framed (now (w .entry)) at s par p j (now (w .exit)) ⌝ }
 {
-    put_two(w, at, s);
-    put_two(w, at + 2, par);
+    base::put_two(w, at, s);
+    base::put_two(w, at + 2, par);
     w[at + 4] = p as u8;
     w[at + 5] = j as u8;
 }
@@ -211,11 +184,18 @@ fn settle(
 {
     let at = trees::SLOT_SIZE * s;
     let q = base::wide(area[at + 3]);
-    trees::put_node(w, i, s, base::wide(area[at + 2]), q, four(area, at + 10));
-    let Step::On(more) = push(w, slots, k, two(area, at + 8), par, p, j, rest) else {
+    trees::put_node(
+        w,
+        i,
+        s,
+        base::wide(area[at + 2]),
+        q,
+        base::four(area, at + 10),
+    );
+    let Step::On(more) = push(w, slots, k, base::two(area, at + 8), par, p, j, rest) else {
         return Step::Stop;
     };
-    push(w, slots, more, two(area, at + 6), s, q, 0, kids)
+    push(w, slots, more, base::two(area, at + 6), s, q, 0, kids)
 }
 
 // Visits the first sibling of frame k, and writes it as node i.
@@ -235,8 +215,8 @@ fn turn(
     ensures { λ r. ⌜ Turned (now (rows .entry)) t n start count slots (now (area .entry)) (now (w .entry)) i k (now (w .exit)) r ⌝ }
 {
     let at = trees::NODE_SIZE * slots + FRAME_SIZE * k;
-    let s = two(w, at);
-    let par = two(w, at + 2);
+    let s = base::two(w, at);
+    let par = base::two(w, at + 2);
     let p = base::wide(w[at + 4]);
     let j = base::wide(w[at + 5]);
     let len = length_of(rows, p);
@@ -277,13 +257,13 @@ fn walk(
     ensures { λ r. ⌜ Wandered (now (rows .entry)) t n start count slots (now (area .entry)) (now (w .exit)) (now (marks .exit)) r ⌝ }
 {
     base::zero(marks);
-    put_frame(w, trees::NODE_SIZE * slots, two(area, 2), 0, 0, 0);
+    put_frame(w, trees::NODE_SIZE * slots, base::two(area, 2), 0, 0, 0);
     let mut i: usize = 0;
     let mut k: usize = 1;
     let mut leaves: usize = 0;
     while 0 < k {
         k -= 1;
-        let s = two(w, trees::NODE_SIZE * slots + FRAME_SIZE * k);
+        let s = base::two(w, trees::NODE_SIZE * slots + FRAME_SIZE * k);
         if s == 0 {
             return Course::Astray;
         }
@@ -318,10 +298,10 @@ fn heads(area: &[u8], used: usize, tokens: usize) -> bool
     if area[1] != trees::TREE_MARK_END {
         return false;
     }
-    if two(area, 4) != used {
+    if base::two(area, 4) != used {
         return false;
     }
-    if two(area, 6) != tokens {
+    if base::two(area, 6) != tokens {
         return false;
     }
     base::all_zero(&area[8..16])

@@ -1,34 +1,42 @@
-use Rattle.base.specs.Blocks.{zeros-more}
-use Rattle.base.specs.Blocks.{zeros, Alike, comparing}
 use Prim.Native.Nat.{_-_, _≤_}
 use lib.ListN.{length}
+use Rattle.base.specs.Blocks.{zeros, Alike, zeros-more, comparing}
 use borrow.Author.Needs.{needs}
 use Rattle.base.proofs.all_zero.Statement.{statement}
 use Rattle.base.proofs.all_zero.Tie as tie
 
 abbrev Inv-loop : tie.InvT-loop
-Inv-loop a acc₀ i₀ acc i = (i ≤ length a) × Alike a (zeros (length a)) i acc
+Inv-loop a h acc₀ i₀ acc i = (i ≤ length a) × Alike a (zeros (length a)) i acc
 
 abbrev μ-loop : tie.MeasureT-loop
-μ-loop a acc₀ i₀ acc i = length a - i
+μ-loop a h acc₀ i₀ acc i = length a - i
+
+mul-h : tie.Need-mul-h Inv-loop μ-loop
+mul-h c = search needs
+
+four-runs-requires : tie.Need-four-runs-requires Inv-loop μ-loop
+four-runs-requires c κs = search needs
+
+mul-i : tie.Need-mul-i Inv-loop μ-loop
+mul-i c = search needs
 
 loop-holds : tie.Need-loop-holds Inv-loop μ-loop
-loop-holds c = search (comparing, needs)
+loop-holds c = (search needs, c .four-runs .ensures)
 
-shared-slice-read-odd-out : tie.Need-shared-slice-read-odd-out Inv-loop μ-loop
-shared-slice-read-odd-out c = search (comparing, needs)
+shared-slice-read-either : tie.Need-shared-slice-read-either Inv-loop μ-loop
+shared-slice-read-either c = search needs
 
-odd-out-requires : tie.Need-odd-out-requires Inv-loop μ-loop
-odd-out-requires c κs = search (comparing, needs)
+either-requires : tie.Need-either-requires Inv-loop μ-loop
+either-requires c κs = search needs
 
 add-i : tie.Need-add-i Inv-loop μ-loop
-add-i c = search (comparing, needs)
+add-i c = search needs
 
 loop-less : tie.Need-loop-less Inv-loop μ-loop
-loop-less c = search (comparing, needs)
+loop-less c = search needs
 
 loop-again : tie.Need-loop-again Inv-loop μ-loop
-loop-again c = (search needs, zeros-more _ _ _ _ _ (c .odd-out .ensures) (c .before .before .before .loop .inv .1))
+loop-again c = (search needs, zeros-more _ _ _ _ (c .either .ensures) (c .before .before .before .loop .inv .1))
 
 returns : tie.Need-returns Inv-loop μ-loop
 returns c = search (comparing, needs)
@@ -39,9 +47,12 @@ all-zero-spec =
     (tie.spec
     Inv-loop
     μ-loop
+    mul-h
+    four-runs-requires
+    mul-i
     loop-holds
-    shared-slice-read-odd-out
-    odd-out-requires
+    shared-slice-read-either
+    either-requires
     add-i
     loop-less
     loop-again

@@ -1,8 +1,7 @@
-use Rattle.base.specs.Blocks.{alike-more}
-use Rattle.base.specs.Blocks.{Alike, comparing}
 use Prim.Native.Nat.{_-_, _≤_}
-use lib.ListN.{length}
 use mathlib.Core.Path.{_≡_}
+use lib.ListN.{length}
+use Rattle.base.specs.Blocks.{Alike, alike-more, comparing}
 use borrow.Author.Needs.{needs}
 use Rattle.base.proofs.same.Statement.{statement}
 use Rattle.base.proofs.same.Tie as tie
@@ -19,23 +18,26 @@ returns c = search (comparing, needs)
 loop-holds : tie.Need-loop-holds Inv-loop μ-loop
 loop-holds c = search (comparing, needs)
 
-shared-slice-read-odd-out : tie.Need-shared-slice-read-odd-out Inv-loop μ-loop
-shared-slice-read-odd-out c = search (comparing, needs)
+shared-slice-read-differ : tie.Need-shared-slice-read-differ Inv-loop μ-loop
+shared-slice-read-differ c = search needs
 
-shared-slice-read-odd-out-2 : tie.Need-shared-slice-read-odd-out-2 Inv-loop μ-loop
-shared-slice-read-odd-out-2 c = search (comparing, needs)
+shared-slice-read-differ-2 : tie.Need-shared-slice-read-differ-2 Inv-loop μ-loop
+shared-slice-read-differ-2 c = search needs
 
-odd-out-requires : tie.Need-odd-out-requires Inv-loop μ-loop
-odd-out-requires c κs = search (comparing, needs)
+differ-requires : tie.Need-differ-requires Inv-loop μ-loop
+differ-requires c κs = search needs
+
+either-requires : tie.Need-either-requires Inv-loop μ-loop
+either-requires c κs = search needs
 
 add-i : tie.Need-add-i Inv-loop μ-loop
-add-i c = search (comparing, needs)
+add-i c = search needs
 
 loop-less : tie.Need-loop-less Inv-loop μ-loop
-loop-less c = search (comparing, needs)
+loop-less c = search needs
 
 loop-again : tie.Need-loop-again Inv-loop μ-loop
-loop-again c = (search needs, search needs, alike-more _ _ _ _ _ (c .odd-out .ensures) (c .before .before .before .before .loop .inv .2))
+loop-again c = (search needs, search needs, alike-more _ _ _ _ _ _ (c .before .differ .ensures) (c .either .ensures) (c .before .before .before .before .before .loop .inv .2))
 
 returns-2 : tie.Need-returns-2 Inv-loop μ-loop
 returns-2 c = search (comparing, needs)
@@ -48,9 +50,10 @@ same-spec =
     μ-loop
     returns
     loop-holds
-    shared-slice-read-odd-out
-    shared-slice-read-odd-out-2
-    odd-out-requires
+    shared-slice-read-differ
+    shared-slice-read-differ-2
+    differ-requires
+    either-requires
     add-i
     loop-less
     loop-again

@@ -36,20 +36,20 @@ loop-again c = (search needs, search needs, reach-room _ _ _ (reach-turn _ _ _ _
 hang-requires-2 : tie.Need-hang-requires-2 Inv-loop μ-loop
 hang-requires-2 c κs = search needs
 
-mul-put-pair : tie.Need-mul-put-pair Inv-loop μ-loop
-mul-put-pair c = search needs
+mul-put-two : tie.Need-mul-put-two Inv-loop μ-loop
+mul-put-two c = search needs
 
-add-put-pair : tie.Need-add-put-pair Inv-loop μ-loop
-add-put-pair c = search needs
+add-put-two : tie.Need-add-put-two Inv-loop μ-loop
+add-put-two c = search needs
 
-put-pair-requires : tie.Need-put-pair-requires Inv-loop μ-loop
-put-pair-requires c κs = search needs
+put-two-requires : tie.Need-put-two-requires Inv-loop μ-loop
+put-two-requires c κs = search needs
 
 same-length : tie.Need-same-length Inv-loop μ-loop
 same-length c = search needs
 
 returns : tie.Need-returns Inv-loop μ-loop
-returns c = (adopted-end _ _ _ _ _ _ _ _ (search needs) (c .before .before .before .before .before .before .before .before .before .loop .inv .4) (c .before .before .before .before .before .before .hang2 .ensures .0) (c .before .before .before .before .before .before .hang2 .ensures .1) (c .before .before .put-pair .ensures), search needs)
+returns c = (adopted-end _ _ _ _ _ _ _ _ (search needs) (c .before .before .before .before .before .before .before .before .before .loop .inv .4) (c .before .before .before .before .before .before .hang2 .ensures .0) (c .before .before .before .before .before .before .hang2 .ensures .1) (c .before .before .put-two .ensures), search needs)
 
 pub adopt-spec : {M : Type 1} → statement M
 adopt-spec =
@@ -64,8 +64,8 @@ adopt-spec =
     loop-less
     loop-again
     hang-requires-2
-    mul-put-pair
-    add-put-pair
-    put-pair-requires
+    mul-put-two
+    add-put-two
+    put-two-requires
     same-length
     returns)

@@ -24,17 +24,17 @@ shared-slice-read-wide-2 c = search needs
 wide-requires-2 : tie.Need-wide-requires-2
 wide-requires-2 c κs = search needs
 
-add-pair : tie.Need-add-pair
-add-pair c = search needs
+add-two : tie.Need-add-two
+add-two c = search needs
 
-pair-requires : tie.Need-pair-requires
-pair-requires c κs = search needs
+two-requires : tie.Need-two-requires
+two-requires c κs = search needs
 
-add-quad : tie.Need-add-quad
-add-quad c = search needs
+add-four : tie.Need-add-four
+add-four c = search needs
 
-quad-requires : tie.Need-quad-requires
-quad-requires c κs = search needs
+four-requires : tie.Need-four-requires
+four-requires c κs = search needs
 
 put-slot-requires : tie.Need-put-slot-requires
 unfolding nodeAt
@@ -44,7 +44,7 @@ same-length : tie.Need-same-length
 same-length c = search needs
 
 returns : tie.Need-returns
-returns c = lay-leaf _ _ _ _ _ _ _ _ (c .before .before .before .before .before .before .pair .ensures .0 ∙ node-slot _ _) (c .before .before .before .before .before .before .before .before .before .wide .ensures .0 ∙ node-symbol _ _) (c .before .before .before .before .before .before .before .wide2 .ensures .0 ∙ node-production _ _) _ (search needs) (c .before .before .before .quad .ensures .0 ∙ node-tag _ _) (search needs) (c .before .before .put-slot .ensures)
+returns c = lay-leaf _ _ _ _ _ _ _ _ (c .before .before .before .before .before .before .two .ensures .0 ∙ node-slot _ _) (c .before .before .before .before .before .before .before .before .before .wide .ensures .0 ∙ node-symbol _ _) (c .before .before .before .before .before .before .before .wide2 .ensures .0 ∙ node-production _ _) _ (search needs) (c .before .before .before .four .ensures .0 ∙ node-tag _ _) (search needs) (c .before .before .put-slot .ensures)
 
 sub-length-at : tie.Need-sub-length-at
 sub-length-at c = search needs
@@ -60,7 +60,7 @@ same-length-2 : tie.Need-same-length-2
 same-length-2 c = search needs
 
 returns-2 : tie.Need-returns-2
-returns-2 c = lay-empty _ _ _ _ _ _ _ _ (c .before .before .before .before .before .before .before .pair .ensures .0 ∙ node-slot _ _) (c .before .before .before .before .before .before .before .before .before .before .wide .ensures .0 ∙ node-symbol _ _) (c .before .before .before .before .before .before .before .before .wide2 .ensures .0 ∙ node-production _ _) _ (search needs) (arity-at _ _ _ _ (c .before .before .before .before .before .before .before .before .wide2 .ensures .0 ∙ node-production _ _) (c .before .before .before .before .before .length-at .ensures .0)) (search needs) (c .before .before .put-slot2 .ensures)
+returns-2 c = lay-empty _ _ _ _ _ _ _ _ (c .before .before .before .before .before .before .before .two .ensures .0 ∙ node-slot _ _) (c .before .before .before .before .before .before .before .before .before .before .wide .ensures .0 ∙ node-symbol _ _) (c .before .before .before .before .before .before .before .before .wide2 .ensures .0 ∙ node-production _ _) _ (search needs) (arity-at _ _ _ _ (c .before .before .before .before .before .before .before .before .wide2 .ensures .0 ∙ node-production _ _) (c .before .before .before .before .before .length-at .ensures .0)) (search needs) (c .before .before .put-slot2 .ensures)
 
 adopt-requires : tie.Need-adopt-requires
 adopt-requires c κs = (search needs, search needs, ready-reach _ _ _ _ _ _ (c .before .before .before .before .before .wide2 .ensures .0 ∙ node-production _ _) (search needs) (arity-at _ _ _ _ (c .before .before .before .before .before .wide2 .ensures .0 ∙ node-production _ _) (c .before .before .length-at .ensures .0)) (search needs) (c .before .before .before .before .before .before .before .before .before .before .before .before .pre .2))
@@ -73,7 +73,7 @@ same-length-3 : tie.Need-same-length-3
 same-length-3 c = search needs
 
 returns-3 : tie.Need-returns-3
-returns-3 c = lay-inner _ _ _ _ _ _ _ _ (c .before .before .before .before .before .before .before .before .before .before .before .pair .ensures .0 ∙ node-slot _ _) (c .before .before .before .before .before .before .before .before .before .before .before .before .before .before .wide .ensures .0 ∙ node-symbol _ _) (c .before .before .before .before .before .before .before .before .before .before .before .before .wide2 .ensures .0 ∙ node-production _ _) _ _ _ (search needs) (arity-at _ _ _ _ (c .before .before .before .before .before .before .before .before .before .before .before .before .wide2 .ensures .0 ∙ node-production _ _) (c .before .before .before .before .before .before .before .before .before .length-at .ensures .0)) (search needs) (search needs) (c .before .before .before .before .before .before .adopt .ensures .0) (c .before .before .put-slot3 .ensures)
+returns-3 c = lay-inner _ _ _ _ _ _ _ _ (c .before .before .before .before .before .before .before .before .before .before .before .two .ensures .0 ∙ node-slot _ _) (c .before .before .before .before .before .before .before .before .before .before .before .before .before .before .wide .ensures .0 ∙ node-symbol _ _) (c .before .before .before .before .before .before .before .before .before .before .before .before .wide2 .ensures .0 ∙ node-production _ _) _ _ _ (search needs) (arity-at _ _ _ _ (c .before .before .before .before .before .before .before .before .before .before .before .before .wide2 .ensures .0 ∙ node-production _ _) (c .before .before .before .before .before .before .before .before .before .length-at .ensures .0)) (search needs) (search needs) (c .before .before .before .before .before .before .adopt .ensures .0) (c .before .before .put-slot3 .ensures)
 
 pub lay-node-spec : {M : Type 1} → statement M
 lay-node-spec =
@@ -85,10 +85,10 @@ lay-node-spec =
     add-wide
     shared-slice-read-wide-2
     wide-requires-2
-    add-pair
-    pair-requires
-    add-quad
-    quad-requires
+    add-two
+    two-requires
+    add-four
+    four-requires
     put-slot-requires
     same-length
     returns
