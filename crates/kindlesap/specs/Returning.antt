@@ -19,24 +19,11 @@ use Rattle.walks.specs.declared.Walked.{Walked}
 use Rattle.plain.specs.Tokens.{tokenSize, tokenBytes}
 use Rattle.sentences.specs.Adding.{Added}
 use Rattle.sentences.specs.Leaves.{leavesFrom, leaves-whole, Gave}
+use Rattle.altering.specs.Treed.{Treed, leaves}
 use Rattle.replies.specs.declared.Reason.the-variants as reasons
 use Rattle.replies.specs.declared.Reply.the-variants.{Accepted, Refused}
 use Rattle.kindlesap.specs.ReadBack.{readCounts, needed, Returns, no-tree, short-output, returned}
-use Rattle.kindlesap.specs.Storing.{Slotted, arity-rows}
-
--- the area's tree has these nodes
-pub record Treed (G : Grammar) (S : ℕ) (b w : List ℕ) (n : ℕ) : Type 0 where
-  pub valid : Valid G S b
-  pub nodes : preorder (valid .tree) ≡ nodesFrom w n 0
-  pub count : n ≡ size (valid .tree)
-
-pub treed : {G : Grammar} {S : ℕ} {b w : List ℕ} {r : Walked} (n : ℕ) → Reads G S b w r → r ≡ Walked.Tree n → Treed G S b w n
-treed n (Reads.tree {n = m} v e f) q = let z : m ≡ n = cc in record { valid = v; nodes = rw z at e; count = rw z at f }
-treed n (Reads.none f) q = never (cc)
-
-pub untreed : {G : Grammar} {S : ℕ} {b w : List ℕ} {r : Walked} → Reads G S b w r → r ≡ Walked.NoTree → Valid G S b → ⊥
-untreed (Reads.tree v e f) q = never (cc)
-untreed (Reads.none f) q = f
+use Rattle.kindlesap.specs.Storing.{Slotted}
 
 module _ (tree output : List ℕ) (G : Grammar) where
   pub returns-wrong : (n S : ℕ) → n ≡ length tree → Slotted n S → S ≡ 0 → Returns tree output G (Refused reasons.WrongTree) output
@@ -50,13 +37,6 @@ module _ (rows : List ℕ) (t n start count S : ℕ) (tree nodes : List ℕ) (o 
   abbrev H : Grammar
   H = grammarIn rows t n start count
 
-  -- the tokens of its leaves are those of the tree
-  pub leaves : leavesOf (nodesFrom nodes o 0) ≡ yield (h .valid .tree)
-  leaves = ap leavesOf (sym (h .nodes)) ∙ leaves-yield (derives-formed (arityIn rows) (arity-rows rows t n start count) (h .valid .derives))
-
-  pub treed-few : o ≤ maxSlots
-  treed-few = let l = valid-few (h .valid) in let q = h .count in let z = size-preorder (h .valid .tree) in omega (arith, l, q, z, h .valid .few)
-
   pub returns-short : (output : List ℕ) (m need : ℕ) → m ≡ get16 tree 6 → need ≡ tokenSize * m → length output < need → Returns tree output H (Refused (reasons.ShortOutput need)) output
   returns-short output m need e f l =
       let q : need ≡ needed (h .valid .tree) = let y = valid-header (h .valid) .tokens in omega (arith, e, f, y) in
@@ -67,7 +47,7 @@ module _ (rows : List ℕ) (t n start count S : ℕ) (tree nodes : List ℕ) (o 
   returns-given output output' m i j e l u =
       let w : List Token = yield (h .valid .tree) in
       let c : m ≡ length w = let y = valid-header (h .valid) .tokens in omega (arith, e, y) in
-      let t : take (m - 0) (leavesFrom nodes o 0) ≡ w = rw (leaves-whole nodes o, leaves) (take-all (m - 0) w (omega arith)) in
+      let t : take (m - 0) (leavesFrom nodes o 0) ≡ w = rw (leaves-whole nodes o, leaves rows t n start count S tree nodes o h) (take-all (m - 0) w (omega arith)) in
       let a : Added w output output' 0 j = rw t at (u .added) in
       let q : tokenSize * j ≡ needed (h .valid .tree) = omega (arith, a .count) in
       let s : output' ≡ tokenBytes w ++ drop (needed (h .valid .tree)) output = rw (← q) (a .is) in

@@ -21,6 +21,7 @@ use Rattle.plain.specs.Machine.{Ground, Numbered, Done, length-symbols}
 use Rattle.plain.specs.Outcome.{Told, Ran, is-wrong, is-full, is-good, is-bad}
 use Rattle.plain.specs.declared.Tokens.{Tokens}
 use Rattle.plain.specs.declared.Parsed.{Parsed}
+use Rattle.altering.specs.Treed.{arity-rows}
 use Rattle.replies.specs.declared.Reply.{Reply}
 use Rattle.replies.specs.declared.Reason.the-variants as reasons
 use Rattle.replies.specs.declared.Reply.the-variants.{Accepted, Refused}
@@ -49,18 +50,6 @@ pub spread-from : (S : ℕ) (es : List Node) → Numbered 1 es → length es ≤
 spread-from S es h l =
     let e = numbered-slots h in
     record { once = rw e (distinct-from 1 (length es)); within = rw e (within-from S 1 (length es) (omega arith) (omega arith)) }
-
--- ---- the rows say how many children a production has
-
-pub arity-rows : (rows : List ℕ) (t n start count : ℕ) → Arity (grammarIn rows t n start count) (arityIn rows)
-unfolding arityIn
-arity-rows rows t n start count =
-    record {
-      is = λ p M γ r.
-          let x = rule-row rows t n start count r in
-          let z : p - 1 ≡ x .row = omega (arith, x .number) in
-          ap (lengthAt rows) z ∙ sym (length-symbols rows (x .row) (lengthAt rows (x .row)) 0) ∙ sym (ap length (x .body));
-    }
 
 -- ---- an accepted sentence
 

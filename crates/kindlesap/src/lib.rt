@@ -26,7 +26,7 @@ ghost use Rattle.kindlesap.specs.Prepare.{Writes, Prepares, Called};
 ghost use Rattle.kindlesap.specs.Parse.{workAreas, Sized, Fits, ParseOutcome, ParseCalled};
 ghost use Rattle.kindlesap.specs.ReadBack.{Returns, ReadOutcome, ReadCalled};
 ghost use Rattle.kindlesap.specs.Storing.{Slotted};
-ghost use Rattle.kindlesap.specs.Returning.{Treed};
+ghost use Rattle.altering.specs.Treed.{Treed};
 
 pub const WORK_AREAS: usize = 3;
 

@@ -1,4 +1,5 @@
-use Rattle.kindlesap.specs.Returning.{treed-few, returns-short, returns-given}
+use Rattle.kindlesap.specs.Returning.{returns-short, returns-given}
+use Rattle.altering.specs.Treed.{treed-few}
 use borrow.Author.Needs.{needs}
 use Rattle.kindlesap.proofs.give_back.Statement.{statement}
 use Rattle.kindlesap.proofs.give_back.Tie as tie

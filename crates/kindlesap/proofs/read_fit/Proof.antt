@@ -1,4 +1,5 @@
-use Rattle.kindlesap.specs.Returning.{treed, untreed, returns-wrong, returns-none}
+use Rattle.kindlesap.specs.Returning.{returns-wrong, returns-none}
+use Rattle.altering.specs.Treed.{treed, untreed}
 use borrow.Author.Needs.{needs}
 use Rattle.kindlesap.proofs.read_fit.Statement.{statement}
 use Rattle.kindlesap.proofs.read_fit.Tie as tie
