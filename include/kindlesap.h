@@ -55,6 +55,7 @@ extern "C" {
  *   5   the tree area's length is wrong; in read back also no valid tree        0
  *   6   the work area is shorter than three times the tree area                 length needed
  *   7   the token bytes end inside a record, or a kind is not 1..t              first bad record, from 0
+ *   8   place plus removed exceeds the old token count                          that count
  *   9   syntax, as told at parse                                                token
  *  10   no room, as told at parse                                               0
  *  11   the output is shorter than 5 bytes a token                              bytes needed
@@ -73,6 +74,7 @@ extern "C" {
 #define KINDLESAP_WRONG_TREE 5
 #define KINDLESAP_SHORT_WORK 6
 #define KINDLESAP_BAD_TOKEN 7
+#define KINDLESAP_BEYOND_TOKENS 8
 #define KINDLESAP_SYNTAX 9
 #define KINDLESAP_NO_ROOM 10
 #define KINDLESAP_SHORT_OUTPUT 11

@@ -3,6 +3,7 @@ pub mod Judged
 pub mod Prepare
 pub mod Parse
 pub mod ReadBack
+pub mod Edit
 -- The laws that the proofs of the calls cite.
 pub mod Judging
 pub mod Storing
