@@ -79,7 +79,7 @@ seek-right h i par n j (Forest.node s M p k r) =
 
 -- ---- the two tests
 
-both-true : (a b : Bool) → (a && b) ≡ true → (a ≡ true) × (b ≡ true)
+pub both-true : (a b : Bool) → (a && b) ≡ true → (a ≡ true) × (b ≡ true)
 both-true true b e = (refl, e)
 both-true false b e = never (cc)
 

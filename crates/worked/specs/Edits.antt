@@ -1,0 +1,230 @@
+-- Edits of trees that parse leaves, with the reference grammar: what an example says of one, and how that is found by computing.
+use Prim.Native.Nat.{ℕ, zero, suc, _+_, _*_, _≤_, _<_}
+use mathlib.Core.Path.{_≡_, refl, sym, ap, _∙_, subst}
+use mathlib.Core.Bool.{Bool, true, false}
+use mathlib.Core.Option.{some}
+use mathlib.Core.List.{List, [], _∷_, _++_}
+use lib.ListN.{length, take, drop}
+use lib.Dec.{leb}
+use borrow.Author.Tests.{leb-true}
+use native.Mathlib.Omega.{arith}
+use Rattle.base.specs.Choose.{never}
+use Rattle.base.specs.Blocks.{zeros}
+use Rattle.grammar.specs.Forest.{Token, kinds, Forest, size, yield, Derives}
+use Rattle.grammar.specs.Trees.{kinds-append}
+use Rattle.grammar.specs.Reference.{reference, referenceImage, reference-image}
+use Rattle.trees.specs.Area.{maxSlots, slots, Area, Valid}
+use Rattle.trees.specs.Nodes.{Node, leafNode, innerNode, preorder, build}
+use Rattle.plain.specs.Plain.{syntax, Parses}
+use Rattle.plain.specs.Tokens.{Sentence}
+use Rattle.edits.specs.Keeping.{Edit, edited, Holding, keptOf, madeOf, GivenUp, Altered}
+use Rattle.edits.specs.One.{keeps-one}
+use Rattle.sentences.specs.Forming.{editOf}
+use Rattle.replies.specs.declared.Reply.{Reply}
+use Rattle.replies.specs.declared.Reason.the-variants.{BeyondTokens, Syntax}
+use Rattle.replies.specs.declared.Reply.the-variants.{Accepted, Refused}
+use Rattle.kindlesap.specs.Judged.{fit, good-image}
+use Rattle.kindlesap.specs.Parse.{workAreas, upFrom, Stored, stored-one}
+use Rattle.kindlesap.specs.Edit as calls
+use Rattle.worked.specs.Ready.{reference-prepared}
+use Rattle.worked.specs.Entries.{referenceTables, reference-tables}
+use Rattle.worked.specs.Run.{body, run, run-right}
+use Rattle.worked.specs.Match.{held, held-right}
+use Rattle.worked.specs.Alter.{grows, grows-derives, gives, gives-given, givenUp, given-up-right}
+
+-- ---- what an example says of an edit
+
+-- a node of the new tree that kept its slot, or that was made: its slot, symbol and production (0 for a leaf)
+pub data Cell : Type 0 where
+  kept : (slot symbol production : ℕ) → Cell
+  made : (slot symbol production : ℕ) → Cell
+
+-- the nodes of a tree, in preorder, with the slots that they hold, or 0
+abbrev pub cellOf : ℕ → Node → Cell
+cellOf zero e = made (e .slot) (e .symbol) (e .production)
+cellOf (suc h) e = kept (e .slot) (e .symbol) (e .production)
+
+abbrev pub cellsOf : List ℕ → List Node → List Cell
+cellsOf [] es = []
+cellsOf (h ∷ hs) [] = []
+cellsOf (h ∷ hs) (e ∷ es) = cellOf h e ∷ cellsOf hs es
+
+-- what an edit is given: the tree that parse leaves of a sentence of kinds ks in S slots, tokens of kinds `new` to insert, and work enough; tags are free
+pub record Setting (S : ℕ) (ks new : List ℕ) : Type 0 where
+  pub some : 1 ≤ S
+  pub few : S ≤ maxSlots
+  pub sentence : List Token
+  pub sentence-kinds : kinds sentence ≡ ks
+  pub old : Forest
+  pub stored : Stored reference S sentence old
+  pub tree : List ℕ
+  pub area : Area S old tree
+  pub inserted : List Token
+  pub inserted-kinds : kinds inserted ≡ new
+  pub tokens : List ℕ
+  pub spelt : Sentence (reference .t) tokens inserted
+  pub work : List ℕ
+  pub long : workAreas * length tree ≤ length work
+
+-- the call gives this reply and this tree area
+abbrev pub Replies : {S : ℕ} {ks new : List ℕ} → Setting S ks new → (place removed : ℕ) → Reply → List ℕ → Type 0
+Replies x place removed r tree' = calls.EditOutcome referenceImage referenceTables (x .tree) place removed (x .tokens) (x .work) r tree' (zeros (length (x .work)))
+
+-- it is accepted with these counts, and the tree that it leaves has these nodes
+pub record Remade {S : ℕ} {ks new : List ℕ} (x : Setting S ks new) (place removed total kept made up : ℕ) (cells : List Cell) : Type 0 where
+  pub tree : Forest
+  pub altered : Altered reference S (editOf place removed (x .inserted)) (x .old) tree kept made up
+  pub nodes : cellsOf (altered .held) (preorder tree) ≡ cells
+  pub outcome : (tree' : List ℕ) → Area S tree tree' → Replies x place removed (Accepted (calls.editCounts total kept made up)) tree'
+
+-- ---- tokens and trees, written out but for the tags
+
+-- the first token's tag, and the tokens behind it
+abbrev tagOf : List Token → ℕ
+tagOf [] = 0
+tagOf (k ∷ w) = k .tag
+
+abbrev tailOf : List Token → List Token
+tailOf [] = []
+tailOf (k ∷ w) = w
+
+-- tokens of these kinds with the tags of w
+unfoldable pub spelled : List ℕ → List Token → List Token
+spelled [] w = []
+spelled (k ∷ ks) w = record { kind = k; tag = tagOf w } ∷ spelled ks (tailOf w)
+
+spelled-is : (ks : List ℕ) (w : List Token) → kinds w ≡ ks → spelled ks w ≡ w
+unfolding spelled
+spelled-is [] [] e = refl
+spelled-is [] (k ∷ w) e = never (cc)
+spelled-is (a ∷ ks) [] e = never (cc)
+spelled-is (a ∷ ks) (k ∷ w) e =
+    let q : kinds w ≡ ks = cc in
+    let z : k .kind ≡ a = cc in
+    rw (spelled-is ks w q, ← z)
+
+-- the nodes of cells, the leaves with the tags of w
+unfoldable pub noded : List Token → List Cell → List Node
+noded w [] = []
+noded w (kept s x zero ∷ cs) = leafNode s x (tagOf w) ∷ noded (tailOf w) cs
+noded w (kept s x (suc p) ∷ cs) = innerNode s x (suc p) ∷ noded w cs
+noded w (made s x zero ∷ cs) = leafNode s x (tagOf w) ∷ noded (tailOf w) cs
+noded w (made s x (suc p) ∷ cs) = innerNode s x (suc p) ∷ noded w cs
+
+unfoldable pub planted : List Token → List Cell → Forest
+planted w cs = build (λ p. length (body p)) (noded w cs)
+
+-- ---- what is computed of an edit
+
+pub record Facts : Type 0 where
+  pub old-derives : Bool
+  pub old-yields : List Token
+  pub old-fits : Bool
+  pub old-slots : List ℕ
+  pub in-range : Bool
+  pub derives : Bool
+  pub yields : List Token
+  pub fits : Bool
+  pub given : Bool
+  pub total : ℕ
+  pub kept : ℕ
+  pub made : ℕ
+  pub up : ℕ
+  pub cells : List Cell
+
+unfoldable pub facts : ℕ → Edit → Forest → Forest → Facts
+facts S e old new =
+    let hs : List ℕ = held e old new in
+    record {
+      old-derives = grows (reference .start ∷ []) old;
+      old-yields = yield old;
+      old-fits = leb (size old) S;
+      old-slots = slots old;
+      in-range = leb (e .place + e .removed) (length (yield old));
+      derives = grows (reference .start ∷ []) new;
+      yields = yield new;
+      fits = leb (size new) S;
+      given = gives hs 1 hs (slots new);
+      total = size new;
+      kept = keptOf hs;
+      made = madeOf hs;
+      up = givenUp hs (slots old);
+      cells = cellsOf hs (preorder new);
+    }
+
+-- what they are to be, for a sentence and the edited one
+abbrev pub right : (w w' : List Token) (before total kept made up : ℕ) → List Cell → Facts
+right w w' before t k m u cells =
+    record {
+      old-derives = true;
+      old-yields = w;
+      old-fits = true;
+      old-slots = upFrom 1 before;
+      in-range = true;
+      derives = true;
+      yields = w';
+      fits = true;
+      given = true;
+      total = t;
+      kept = k;
+      made = m;
+      up = u;
+      cells = cells;
+    }
+
+-- ---- it is right
+
+abbrev valid : {S : ℕ} {ks new : List ℕ} (x : Setting S ks new) → Valid reference S (x .tree)
+valid x = record { some = x .some; few = x .few; tree = x .old; derives = x .stored .derives; area = x .area }
+
+replied : {S : ℕ} {ks new : List ℕ} (x : Setting S ks new) {place removed : ℕ} {r : Reply} {tree' : List ℕ}
+    → calls.Edits referenceTables (x .tokens) place removed (length (x .work)) (x .tree) reference r tree' → Replies x place removed r tree'
+replied x h = record { opened = good-image reference-image (fit reference-prepared h); cleared = refl }
+
+-- the old tree is the one that parse leaves
+stored-is : {S : ℕ} {ks new : List ℕ} (x : Setting S ks new) (O : Forest) → grows (reference .start ∷ []) O ≡ true → yield O ≡ spelled ks (x .sentence) → leb (size O) S ≡ true → slots O ≡ upFrom 1 (size O) → O ≡ x .old
+stored-is {S} {ks} x O d y f o =
+    stored-one reference-prepared
+    (record { derives = grows-derives (reference .start ∷ []) O d; yields = y ∙ spelled-is ks (x .sentence) (x .sentence-kinds); fits = leb-true (size O) S f; order = o })
+    (x .stored)
+
+pub edit-says : (S place removed total k m up : ℕ) (ks new : List ℕ) (olds cells : List Cell)
+    → ((w u : List Token) → facts S (editOf place removed (spelled new u)) (planted (spelled ks w) olds) (planted (edited (editOf place removed (spelled new u)) (spelled ks w)) cells)
+      ≡ right (spelled ks w) (edited (editOf place removed (spelled new u)) (spelled ks w)) (size (planted (spelled ks w) olds)) total k m up cells)
+    → (x : Setting S ks new) → Remade x place removed total k m up cells
+unfolding facts
+edit-says S place removed total k m up ks new olds cells found x =
+    let W : List Token = spelled ks (x .sentence) in
+    let U : List Token = spelled new (x .inserted) in
+    let e : Edit = editOf place removed U in
+    let O : Forest = planted W olds in
+    let N : Forest = planted (edited e W) cells in
+    let h : facts S e O N ≡ right W (edited e W) (size O) total k m up cells = found (x .sentence) (x .inserted) in
+    let y : yield O ≡ W = ap (λ (f : Facts). f .old-yields) h in
+    let q : O ≡ x .old = stored-is x O (ap (λ (f : Facts). f .old-derives) h) y (ap (λ (f : Facts). f .old-fits) h) (ap (λ (f : Facts). f .old-slots) h) in
+    let p : U ≡ x .inserted = spelled-is new (x .inserted) (x .inserted-kinds) in
+    let hs : List ℕ = held e O N in
+    let d : Derives reference (reference .start ∷ []) O = grows-derives (reference .start ∷ []) O (ap (λ (f : Facts). f .old-derives) h) in
+    let z : Holding e O N hs = held-right (λ a' a b. keeps-one reference-prepared d) in
+    let n : size N ≡ total = ap (λ (f : Facts). f .total) h in
+    let l : place + removed ≤ length (yield O) = leb-true (place + removed) (length (yield O)) (ap (λ (f : Facts). f .in-range) h) in
+    let i : place + removed ≤ length (yield (x .old)) = subst (λ (o : Forest). place + removed ≤ length (yield o)) q l in
+    let a : Altered reference S (editOf place removed (x .inserted)) (x .old) N k m up =
+    record {
+      derives = grows-derives (reference .start ∷ []) N (ap (λ (f : Facts). f .derives) h);
+      yields = ap (λ (f : Facts). f .yields) h ∙ ap (edited e) (sym y) ∙ ap (λ (o : Forest). edited e (yield o)) q ∙ ap (λ (v : List Token). edited (editOf place removed v) (yield (x .old))) p;
+      fits = leb-true (size N) S (ap (λ (f : Facts). f .fits) h);
+      held = hs;
+      holding = subst (λ (v : List Token). Holding (editOf place removed v) (x .old) N hs) p (subst (λ (o : Forest). Holding e o N hs) q z);
+      given = gives-given hs 1 hs (slots N) (ap (λ (f : Facts). f .given) h);
+      kept-count = sym (ap (λ (f : Facts). f .kept) h);
+      made-count = sym (ap (λ (f : Facts). f .made) h);
+      given-up = subst (λ (o : Forest). GivenUp hs (slots o) up) q (subst (λ (c : ℕ). GivenUp hs (slots O) c) (ap (λ (f : Facts). f .up) h) (given-up-right hs (slots O)));
+    } in
+    record {
+      tree = N;
+      altered = a;
+      nodes = ap (λ (f : Facts). f .cells) h;
+      outcome = λ tree' b. subst (λ (c : ℕ). Replies x place removed (Accepted (calls.editCounts c k m up)) tree') n
+          (replied x (calls.altered N reference-tables (valid x) (x .long) (x .spelt) i a b));
+    }
