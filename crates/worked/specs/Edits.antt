@@ -188,12 +188,16 @@ stored-is {S} {ks} x O d y f o =
     (record { derives = grows-derives (reference .start ∷ []) O d; yields = y ∙ spelled-is ks (x .sentence) (x .sentence-kinds); fits = leb-true (size O) S f; order = o })
     (x .stored)
 
-pub edit-says : (S place removed total k m up : ℕ) (ks new : List ℕ) (olds cells : List Cell)
-    → ((w u : List Token) → facts S (editOf place removed (spelled new u)) (planted (spelled ks w) olds) (planted (edited (editOf place removed (spelled new u)) (spelled ks w)) cells)
-      ≡ right (spelled ks w) (edited (editOf place removed (spelled new u)) (spelled ks w)) (size (planted (spelled ks w) olds)) total k m up cells)
+-- the facts of an edit, where `olds` are the nodes of the old tree, are as they should be
+abbrev pub Found : (S : ℕ) (ks : List ℕ) (place removed : ℕ) (new : List ℕ) (total kept made up : ℕ) (cells olds : List Cell) → Type 0
+Found S ks place removed new t k m up cells olds =
+    (w u : List Token) → facts S (editOf place removed (spelled new u)) (planted (spelled ks w) olds) (planted (edited (editOf place removed (spelled new u)) (spelled ks w)) cells)
+    ≡ right (spelled ks w) (edited (editOf place removed (spelled new u)) (spelled ks w)) (size (planted (spelled ks w) olds)) t k m up cells
+
+pub edit-says : (S : ℕ) (ks : List ℕ) (place removed : ℕ) (new : List ℕ) (total k m up : ℕ) (cells olds : List Cell) → Found S ks place removed new total k m up cells olds
     → (x : Setting S ks new) → Remade x place removed total k m up cells
 unfolding facts
-edit-says S place removed total k m up ks new olds cells found x =
+edit-says S ks place removed new total k m up cells olds found x =
     let W : List Token = spelled ks (x .sentence) in
     let U : List Token = spelled new (x .inserted) in
     let e : Edit = editOf place removed U in
@@ -228,3 +232,57 @@ edit-says S place removed total k m up ks new olds cells found x =
       outcome = λ tree' b. subst (λ (c : ℕ). Replies x place removed (Accepted (calls.editCounts c k m up)) tree') n
           (replied x (calls.altered N reference-tables (valid x) (x .long) (x .spelt) i a b));
     }
+
+-- ---- edits that are refused
+
+kinds-take : (n : ℕ) (w : List Token) → kinds (take n w) ≡ take n (kinds w)
+kinds-take zero w = refl
+kinds-take (suc n) [] = refl
+kinds-take (suc n) (k ∷ w) = rw (kinds-take n w)
+
+kinds-drop : (n : ℕ) (w : List Token) → kinds (drop n w) ≡ drop n (kinds w)
+kinds-drop zero w = refl
+kinds-drop (suc n) [] = refl
+kinds-drop (suc n) (k ∷ w) = kinds-drop n w
+
+length-kinds : (w : List Token) → length (kinds w) ≡ length w
+length-kinds [] = refl
+length-kinds (k ∷ w) = ap suc (length-kinds w)
+
+-- the kinds of the new sentence
+abbrev pub newKinds : (place removed : ℕ) → List ℕ → List ℕ → List ℕ
+newKinds place removed ks new = take place ks ++ (new ++ drop (place + removed) ks)
+
+module _ {S : ℕ} {ks new : List ℕ} (x : Setting S ks new) where
+  old-kinds : kinds (yield (x .old)) ≡ ks
+  old-kinds = ap kinds (x .stored .yields) ∙ x .sentence-kinds
+
+  old-length : length (yield (x .old)) ≡ length ks
+  old-length = sym (length-kinds (yield (x .old))) ∙ ap length old-kinds
+
+  edited-kinds : (place removed : ℕ) → kinds (edited (editOf place removed (x .inserted)) (yield (x .old))) ≡ newKinds place removed ks new
+  edited-kinds place removed =
+      let w = yield (x .old) in
+      rw (
+        kinds-append (take place w) (x .inserted ++ drop (place + removed) w),
+        kinds-append (x .inserted) (drop (place + removed) w),
+        kinds-take place w,
+        kinds-drop (place + removed) w,
+        old-kinds,
+        x .inserted-kinds,
+      )
+
+-- the plain parse of the new sentence is refused
+pub syntax-says : (fuel S place removed i e : ℕ) (ks new : List ℕ) → place + removed ≤ length ks → run fuel S (6 ∷ []) (newKinds place removed ks new) 1 0 ≡ some (syntax i e)
+    → (x : Setting S ks new) → Replies x place removed (Refused (Syntax i e)) (x .tree)
+unfolding reference
+syntax-says fuel S place removed i e ks new l h x =
+    let w : List Token = edited (editOf place removed (x .inserted)) (yield (x .old)) in
+    let p : Parses reference S w (syntax i e) = run-right fuel S (6 ∷ []) w 1 0 (syntax i e) (rw (edited-kinds x place removed) h) in
+    replied x (calls.wrong-syntax reference-tables (valid x) (x .long) (x .spelt) (omega (arith, l, old-length x)) p)
+
+-- place and removed run beyond the tokens
+pub beyond-says : (S place removed : ℕ) (ks new : List ℕ) → length ks < place + removed → (x : Setting S ks new) → Replies x place removed (Refused (BeyondTokens (length ks))) (x .tree)
+beyond-says S place removed ks new l x =
+    subst (λ (n : ℕ). Replies x place removed (Refused (BeyondTokens n)) (x .tree)) (old-length x)
+    (replied x (calls.beyond reference-tables (valid x) (x .long) (x .spelt) (omega (arith, l, old-length x))))

@@ -19,11 +19,18 @@ use Rattle.tables.specs.Cells.{next, stemBits, sharedFrom, pointOf}
 use Rattle.tables.specs.Points.{point}
 use Rattle.plain.specs.Plain.{Verdict, accepted, syntax, noRoom, Parses}
 use Rattle.plain.specs.Machine.{marked}
+use Rattle.edits.specs.Keeping.{Edit}
+use Rattle.replies.specs.declared.Reason.{Reason}
+use Rattle.replies.specs.declared.Reason.the-variants.{BeyondTokens, Syntax}
+use Rattle.replies.specs.declared.Reply.the-variants.{Refused}
 use Rattle.kindlesap.specs.Parse.{Stored}
 use Rattle.worked.specs.Words.{words}
-use Rattle.worked.specs.Ready.{cells, steps}
+use Rattle.worked.specs.Ready.{below, cells, steps}
 use Rattle.worked.specs.Entries.{cell, cell-is, entry, entry-is}
 use Rattle.worked.specs.Run.{body, lit, leaf, grown, inner, turn, run, run-right}
+use Rattle.worked.specs.Match.{orElse, seek, starts, stands, was, full, void, source, matches, slotOf, slotsOf, held}
+use Rattle.worked.specs.Alter.{grows, among, filled, gives, givenUp}
+use Rattle.worked.specs.Edits.{Cell, kept, made, Setting, Replies, Remade, spelled, noded, planted, facts, Found, edit-says, syntax-says, beyond-says}
 
 -- ---- what an example says
 
@@ -58,14 +65,49 @@ pub data Example : Type 0 where
   tree : (S : ℕ) (w : List Token) (f : Forest) → Example
   -- C to F. how a sentence of these kinds, whatever its tags, ends in S slots
   parse : (S : ℕ) (ks : List ℕ) (v : Verdict) → Example
+  -- G to K. of the tree that parse leaves of a sentence of kinds ks in S slots: an edit at a place that removes so many tokens and inserts tokens of kinds `new`, whatever the tags.
+  -- It is accepted with total, kept, made and given up, and the new tree has these nodes in preorder
+  edit : (S : ℕ) (ks : List ℕ) (place removed : ℕ) (new : List ℕ) (total kept made up : ℕ) (nodes : List Cell) → Example
+  -- or it is refused, and the tree untouched
+  refusal : (S : ℕ) (ks : List ℕ) (place removed : ℕ) (new : List ℕ) (reason : Reason) → Example
 
 abbrev pub Says : Example → Type 0
 Says (counts p b e) = Counted p b e
 Says (breakPoint M N a v) = Break reference M N a v
 Says (tree S w f) = Stored reference S w f
 Says (parse S ks v) = (w : List Token) → kinds w ≡ ks → Parses reference S w v
+Says (edit S ks place removed new t k m u nodes) = (x : Setting S ks new) → Remade x place removed t k m u nodes
+Says (refusal S ks place removed new reason) = (x : Setting S ks new) → Replies x place removed (Refused reason) (x .tree)
 
 -- ---- the table
+
+-- "U = kinds 1 2 5, and V = 1 2 5 1 2 5"
+abbrev pub kindsU : List ℕ
+kindsU = 1 ∷ 2 ∷ 5 ∷ []
+
+abbrev pub kindsV : List ℕ
+kindsV = 1 ∷ 2 ∷ 5 ∷ 1 ∷ 2 ∷ 5 ∷ []
+
+-- G. "U's tree, at 2 remove 0, insert `4 2`": "New Bar in slot 7; the other four in 10 to 13"
+abbrev pub exampleG : Example
+exampleG =
+    edit 1000 kindsU 2 0 (4 ∷ 2 ∷ []) 13 8 5 1
+    (kept 1 6 1 ∷ kept 2 7 3 ∷ kept 3 1 0 ∷ kept 4 8 4 ∷ kept 5 2 0 ∷ kept 6 9 6 ∷ made 7 10 7 ∷ made 10 4 0 ∷ made 11 8 4 ∷ made 12 2 0 ∷ made 13 9 6 ∷ kept 8 5 0 ∷ kept 9 6 2 ∷ [])
+
+-- H. "V, at 0 remove 3": "root slot 9"
+abbrev pub exampleH : Example
+exampleH =
+    edit 1000 kindsV 0 3 [] 9 9 0 8 (kept 9 6 1 ∷ kept 10 7 3 ∷ kept 11 1 0 ∷ kept 12 8 4 ∷ kept 13 2 0 ∷ kept 14 9 6 ∷ kept 15 10 8 ∷ kept 16 5 0 ∷ kept 17 6 2 ∷ [])
+
+-- I. "V, at 2 remove 2, insert `3`": "New: Rest in 6, comma in 8, last Book in 9"
+abbrev pub exampleI : Example
+exampleI =
+    edit 1000 kindsV 2 2 (3 ∷ []) 13 10 3 7
+    (kept 1 6 1 ∷ kept 2 7 3 ∷ kept 3 1 0 ∷ kept 4 8 4 ∷ kept 5 2 0 ∷ made 6 9 5 ∷ made 8 3 0 ∷ kept 12 8 4 ∷ kept 13 2 0 ∷ kept 14 9 6 ∷ kept 7 10 8 ∷ kept 16 5 0 ∷ made 9 6 2 ∷ [])
+
+-- K. "U: at 3 remove 0 is in range"
+abbrev pub exampleK : Example
+exampleK = edit 1000 kindsU 3 0 [] 9 9 0 0 (kept 1 6 1 ∷ kept 2 7 3 ∷ kept 3 1 0 ∷ kept 4 8 4 ∷ kept 5 2 0 ∷ kept 6 9 6 ∷ kept 7 10 8 ∷ kept 8 5 0 ∷ kept 9 6 2 ∷ [])
 
 pub examples : List Example
 examples =
@@ -80,7 +122,14 @@ examples =
     parse 8 (1 ∷ 2 ∷ 5 ∷ []) noRoom ∷
     parse 9 (1 ∷ 2 ∷ []) (syntax 2 56) ∷
     parse 8 (1 ∷ 2 ∷ []) noRoom ∷
-    parse 1000 (1 ∷ 2 ∷ 4 ∷ 2 ∷ 4 ∷ []) (syntax 4 32) ∷ []
+    parse 1000 (1 ∷ 2 ∷ 4 ∷ 2 ∷ 4 ∷ []) (syntax 4 32) ∷
+    parse 1000 kindsV (accepted 17) ∷
+    exampleG ∷
+    exampleH ∷
+    exampleI ∷
+    refusal 1000 kindsV 2 2 [] (Syntax 2 56) ∷
+    exampleK ∷
+    refusal 1000 kindsU 3 1 [] (BeyondTokens 3) ∷ []
 
 -- ---- the values, computed
 
@@ -135,9 +184,35 @@ pub parse-says : (fuel S : ℕ) (ks : List ℕ) (v : Verdict) → run fuel S (6 
 unfolding reference
 parse-says fuel S ks v e w q = run-right fuel S (6 ∷ []) w 1 0 v (rw q e)
 
+-- the trees that parse leaves of U and V
+abbrev pub treeU : List Cell
+treeU = made 1 6 1 ∷ made 2 7 3 ∷ made 3 1 0 ∷ made 4 8 4 ∷ made 5 2 0 ∷ made 6 9 6 ∷ made 7 10 8 ∷ made 8 5 0 ∷ made 9 6 2 ∷ []
+
+abbrev pub treeV : List Cell
+treeV =
+    made 1 6 1 ∷ made 2 7 3 ∷ made 3 1 0 ∷ made 4 8 4 ∷ made 5 2 0 ∷ made 6 9 6 ∷ made 7 10 8 ∷ made 8 5 0 ∷ made 9 6 1 ∷ made 10 7 3 ∷ made 11 1 0 ∷ made 12 8 4 ∷ made 13 2 0 ∷ made 14 9 6 ∷
+    made 15 10 8 ∷ made 16 5 0 ∷ made 17 6 2 ∷ []
+
+-- what is computed of an edit's example is right
+abbrev FoundIn : Example → List Cell → Type 0
+FoundIn (counts p b e) olds = ⊥
+FoundIn (breakPoint M N a v) olds = ⊥
+FoundIn (tree S w f) olds = ⊥
+FoundIn (parse S ks v) olds = ⊥
+FoundIn (edit S ks place removed new t k m u nodes) olds = Found S ks place removed new t k m u nodes olds
+FoundIn (refusal S ks place removed new reason) olds = ⊥
+
+pub found-says : (x : Example) (olds : List Cell) → FoundIn x olds → Says x
+found-says (counts p b e) olds h = absurd h
+found-says (breakPoint M N a v) olds h = absurd h
+found-says (tree S w f) olds h = absurd h
+found-says (parse S ks v) olds h = absurd h
+found-says (edit S ks place removed new t k m u nodes) olds h = edit-says S ks place removed new t k m u nodes olds h
+found-says (refusal S ks place removed new reason) olds h = absurd h
+
 -- every example holds
 pub examples-hold : Each Says examples
-unfolding examples run turn leaf inner grown body lit marked cell cells zeros choose reference
+unfolding examples run turn leaf inner grown body lit marked cell cells zeros choose reference spelled noded planted facts held matches source full void was seek orElse starts stands slotOf slotsOf grows among filled gives givenUp below
 examples-hold =
     Each.cons counted
     (Each.cons (point-says 9 10 4 10 (omega arith) (omega arith) (omega arith) at-9-10-4)
@@ -150,4 +225,11 @@ examples-hold =
     (Each.cons (parse-says 20 _ _ _ refl)
     (Each.cons (parse-says 20 _ _ _ refl)
     (Each.cons (parse-says 20 _ _ _ refl)
-    (Each.cons (parse-says 20 _ _ _ refl) Each.nil)))))))))))
+    (Each.cons (parse-says 20 _ _ _ refl)
+    (Each.cons (parse-says 40 _ _ _ refl)
+    (Each.cons (found-says exampleG treeU (λ w u. refl))
+    (Each.cons (found-says exampleH treeV (λ w u. refl))
+    (Each.cons (found-says exampleI treeV (λ w u. refl))
+    (Each.cons (syntax-says 20 1000 2 2 2 56 kindsV [] (omega arith) refl)
+    (Each.cons (found-says exampleK treeU (λ w u. refl))
+    (Each.cons (beyond-says 1000 3 1 kindsU [] (omega arith)) Each.nil))))))))))))))))))
