@@ -49,6 +49,19 @@ cellsOf [] es = []
 cellsOf (h ∷ hs) [] = []
 cellsOf (h ∷ hs) (e ∷ es) = cellOf h e ∷ cellsOf hs es
 
+-- an edit of the tree that parse leaves of a sentence of these kinds in so many slots; the counts it is accepted with, and the nodes of the new tree
+pub record Row : Type 0 where
+  pub S : ℕ
+  pub sentence : List ℕ
+  pub place : ℕ
+  pub removed : ℕ
+  pub inserted : List ℕ
+  pub total : ℕ
+  pub kept : ℕ
+  pub made : ℕ
+  pub up : ℕ
+  pub nodes : List Cell
+
 -- what an edit is given: the tree that parse leaves of a sentence of kinds ks in S slots, tokens of kinds `new` to insert, and work enough; tags are free
 pub record Setting (S : ℕ) (ks new : List ℕ) : Type 0 where
   pub some : 1 ≤ S
@@ -70,12 +83,12 @@ pub record Setting (S : ℕ) (ks new : List ℕ) : Type 0 where
 abbrev pub Replies : {S : ℕ} {ks new : List ℕ} → Setting S ks new → (place removed : ℕ) → Reply → List ℕ → Type 0
 Replies x place removed r tree' = calls.EditOutcome referenceImage referenceTables (x .tree) place removed (x .tokens) (x .work) r tree' (zeros (length (x .work)))
 
--- it is accepted with these counts, and the tree that it leaves has these nodes
-pub record Remade {S : ℕ} {ks new : List ℕ} (x : Setting S ks new) (place removed total kept made up : ℕ) (cells : List Cell) : Type 0 where
+-- it is accepted with the row's counts, and the tree that it leaves has the row's nodes
+pub record Remade (r : Row) (x : Setting (r .S) (r .sentence) (r .inserted)) : Type 0 where
   pub tree : Forest
-  pub altered : Altered reference S (editOf place removed (x .inserted)) (x .old) tree kept made up
-  pub nodes : cellsOf (altered .held) (preorder tree) ≡ cells
-  pub outcome : (tree' : List ℕ) → Area S tree tree' → Replies x place removed (Accepted (calls.editCounts total kept made up)) tree'
+  pub altered : Altered reference (r .S) (editOf (r .place) (r .removed) (x .inserted)) (x .old) tree (r .kept) (r .made) (r .up)
+  pub nodes : cellsOf (altered .held) (preorder tree) ≡ r .nodes
+  pub outcome : (tree' : List ℕ) → Area (r .S) tree tree' → Replies x (r .place) (r .removed) (Accepted (calls.editCounts (r .total) (r .kept) (r .made) (r .up))) tree'
 
 -- ---- tokens and trees, written out but for the tags
 
@@ -152,25 +165,32 @@ facts S e old new =
       cells = cellsOf hs (preorder new);
     }
 
--- what they are to be, for a sentence and the edited one
-abbrev pub right : (w w' : List Token) (before total kept made up : ℕ) → List Cell → Facts
-right w w' before t k m u cells =
+-- what they are to be by a row, where n is the old tree's size and w its sentence
+abbrev pub right : Row → (n : ℕ) (w w' : List Token) → Facts
+right r n w w' =
     record {
       old-derives = true;
       old-yields = w;
       old-fits = true;
-      old-slots = upFrom 1 before;
+      old-slots = upFrom 1 n;
       in-range = true;
       derives = true;
       yields = w';
       fits = true;
       given = true;
-      total = t;
-      kept = k;
-      made = m;
-      up = u;
-      cells = cells;
+      total = r .total;
+      kept = r .kept;
+      made = r .made;
+      up = r .up;
+      cells = r .nodes;
     }
+
+-- of the old tree's nodes and a row, whatever the tags
+abbrev pub Found : Row → List Cell → Type 0
+Found r olds = (w u : List Token) → go (spelled (r .sentence) w) (editOf (r .place) (r .removed) (spelled (r .inserted) u))
+  where
+    go : List Token → Edit → Type 0
+    go w e = facts (r .S) e (planted w olds) (planted (edited e w) (r .nodes)) ≡ right r (size (planted w olds)) w (edited e w)
 
 -- ---- it is right
 
@@ -188,48 +208,44 @@ stored-is {S} {ks} x O d y f o =
     (record { derives = grows-derives (reference .start ∷ []) O d; yields = y ∙ spelled-is ks (x .sentence) (x .sentence-kinds); fits = leb-true (size O) S f; order = o })
     (x .stored)
 
--- the facts of an edit, where `olds` are the nodes of the old tree, are as they should be
-abbrev pub Found : (S : ℕ) (ks : List ℕ) (place removed : ℕ) (new : List ℕ) (total kept made up : ℕ) (cells olds : List Cell) → Type 0
-Found S ks place removed new t k m up cells olds =
-    (w u : List Token) → facts S (editOf place removed (spelled new u)) (planted (spelled ks w) olds) (planted (edited (editOf place removed (spelled new u)) (spelled ks w)) cells)
-    ≡ right (spelled ks w) (edited (editOf place removed (spelled new u)) (spelled ks w)) (size (planted (spelled ks w) olds)) t k m up cells
-
-pub edit-says : (S : ℕ) (ks : List ℕ) (place removed : ℕ) (new : List ℕ) (total k m up : ℕ) (cells olds : List Cell) → Found S ks place removed new total k m up cells olds
-    → (x : Setting S ks new) → Remade x place removed total k m up cells
+pub edit-says : (r : Row) (olds : List Cell) → Found r olds → (x : Setting (r .S) (r .sentence) (r .inserted)) → Remade r x
 unfolding facts
-edit-says S ks place removed new total k m up cells olds found x =
-    let W : List Token = spelled ks (x .sentence) in
-    let U : List Token = spelled new (x .inserted) in
-    let e : Edit = editOf place removed U in
+edit-says r olds found x =
+    let S : ℕ = r .S in
+    let W : List Token = spelled (r .sentence) (x .sentence) in
+    let U : List Token = spelled (r .inserted) (x .inserted) in
+    let e : Edit = editOf (r .place) (r .removed) U in
     let O : Forest = planted W olds in
-    let N : Forest = planted (edited e W) cells in
-    let h : facts S e O N ≡ right W (edited e W) (size O) total k m up cells = found (x .sentence) (x .inserted) in
+    let N : Forest = planted (edited e W) (r .nodes) in
+    let h : facts S e O N ≡ right r (size O) W (edited e W) = found (x .sentence) (x .inserted) in
     let y : yield O ≡ W = ap (λ (f : Facts). f .old-yields) h in
     let q : O ≡ x .old = stored-is x O (ap (λ (f : Facts). f .old-derives) h) y (ap (λ (f : Facts). f .old-fits) h) (ap (λ (f : Facts). f .old-slots) h) in
-    let p : U ≡ x .inserted = spelled-is new (x .inserted) (x .inserted-kinds) in
+    let p : U ≡ x .inserted = spelled-is (r .inserted) (x .inserted) (x .inserted-kinds) in
     let hs : List ℕ = held e O N in
     let d : Derives reference (reference .start ∷ []) O = grows-derives (reference .start ∷ []) O (ap (λ (f : Facts). f .old-derives) h) in
     let z : Holding e O N hs = held-right (λ a' a b. keeps-one reference-prepared d) in
-    let n : size N ≡ total = ap (λ (f : Facts). f .total) h in
-    let l : place + removed ≤ length (yield O) = leb-true (place + removed) (length (yield O)) (ap (λ (f : Facts). f .in-range) h) in
-    let i : place + removed ≤ length (yield (x .old)) = subst (λ (o : Forest). place + removed ≤ length (yield o)) q l in
-    let a : Altered reference S (editOf place removed (x .inserted)) (x .old) N k m up =
+    let n : size N ≡ r .total = ap (λ (f : Facts). f .total) h in
+    let l : r .place + r .removed ≤ length (yield O) = leb-true (r .place + r .removed) (length (yield O)) (ap (λ (f : Facts). f .in-range) h) in
+    let i : r .place + r .removed ≤ length (yield (x .old)) = subst (λ (o : Forest). r .place + r .removed ≤ length (yield o)) q l in
+    let v : GivenUp hs (slots O) (r .up) = subst (λ (c : ℕ). GivenUp hs (slots O) c) (ap (λ (f : Facts). f .up) h) (given-up-right hs (slots O)) in
+    let a : Altered reference S (editOf (r .place) (r .removed) (x .inserted)) (x .old) N (r .kept) (r .made) (r .up) =
     record {
       derives = grows-derives (reference .start ∷ []) N (ap (λ (f : Facts). f .derives) h);
-      yields = ap (λ (f : Facts). f .yields) h ∙ ap (edited e) (sym y) ∙ ap (λ (o : Forest). edited e (yield o)) q ∙ ap (λ (v : List Token). edited (editOf place removed v) (yield (x .old))) p;
+      yields = ap (λ (f : Facts). f .yields) h ∙ ap (edited e) (sym y) ∙ ap (λ (o : Forest). edited e (yield o)) q
+          ∙ ap (λ (u : List Token). edited (editOf (r .place) (r .removed) u) (yield (x .old))) p;
       fits = leb-true (size N) S (ap (λ (f : Facts). f .fits) h);
       held = hs;
-      holding = subst (λ (v : List Token). Holding (editOf place removed v) (x .old) N hs) p (subst (λ (o : Forest). Holding e o N hs) q z);
+      holding = subst (λ (u : List Token). Holding (editOf (r .place) (r .removed) u) (x .old) N hs) p (subst (λ (o : Forest). Holding e o N hs) q z);
       given = gives-given hs 1 hs (slots N) (ap (λ (f : Facts). f .given) h);
       kept-count = sym (ap (λ (f : Facts). f .kept) h);
       made-count = sym (ap (λ (f : Facts). f .made) h);
-      given-up = subst (λ (o : Forest). GivenUp hs (slots o) up) q (subst (λ (c : ℕ). GivenUp hs (slots O) c) (ap (λ (f : Facts). f .up) h) (given-up-right hs (slots O)));
+      given-up = subst (λ (o : Forest). GivenUp hs (slots o) (r .up)) q v;
     } in
     record {
       tree = N;
       altered = a;
       nodes = ap (λ (f : Facts). f .cells) h;
-      outcome = λ tree' b. subst (λ (c : ℕ). Replies x place removed (Accepted (calls.editCounts c k m up)) tree') n
+      outcome = λ tree' b. subst (λ (c : ℕ). Replies x (r .place) (r .removed) (Accepted (calls.editCounts c (r .kept) (r .made) (r .up))) tree') n
           (replied x (calls.altered N reference-tables (valid x) (x .long) (x .spelt) i a b));
     }
 
