@@ -1,7 +1,7 @@
 -- Edits of trees that parse leaves, with the reference grammar: what an example says of one, and how that is found by computing.
 use Prim.Native.Nat.{ℕ, zero, suc, _+_, _*_, _≤_, _<_}
 use mathlib.Core.Path.{_≡_, refl, sym, ap, _∙_, subst}
-use mathlib.Core.Bool.{Bool, true, false}
+use mathlib.Core.Bool.{Bool, true}
 use mathlib.Core.Option.{some}
 use mathlib.Core.List.{List, [], _∷_, _++_}
 use lib.ListN.{length, take, drop}
@@ -16,15 +16,17 @@ use Rattle.grammar.specs.Reference.{reference, referenceImage, reference-image}
 use Rattle.trees.specs.Area.{maxSlots, slots, Area, Valid}
 use Rattle.trees.specs.Nodes.{Node, leafNode, innerNode, preorder, build}
 use Rattle.plain.specs.Plain.{syntax, Parses}
-use Rattle.plain.specs.Tokens.{Sentence}
+use Rattle.plain.specs.Tokens.{Sentence, sentence-one, bad-not-sentence}
 use Rattle.edits.specs.Keeping.{Edit, edited, Holding, keptOf, madeOf, GivenUp, Altered}
 use Rattle.edits.specs.One.{keeps-one}
+use Rattle.edits.specs.Uniqueness.{altered-one}
 use Rattle.sentences.specs.Forming.{editOf}
 use Rattle.replies.specs.declared.Reply.{Reply}
 use Rattle.replies.specs.declared.Reason.the-variants.{BeyondTokens, Syntax}
 use Rattle.replies.specs.declared.Reply.the-variants.{Accepted, Refused}
 use Rattle.kindlesap.specs.Judged.{fit, good-image}
 use Rattle.kindlesap.specs.Parse.{workAreas, upFrom, Stored, stored-one}
+use Rattle.kindlesap.specs.ReadBack.{slots-one, trees-one}
 use Rattle.kindlesap.specs.Edit as calls
 use Rattle.worked.specs.Ready.{reference-prepared}
 use Rattle.worked.specs.Entries.{referenceTables, reference-tables}
@@ -85,8 +87,10 @@ Replies x place removed r tree' = calls.EditOutcome referenceImage referenceTabl
 
 -- it is accepted with the row's counts, and the tree that it leaves has the row's nodes
 pub record Remade (r : Row) (x : Setting (r .S) (r .sentence) (r .inserted)) : Type 0 where
+  pub in-range : r .place + r .removed ≤ length (yield (x .old))
   pub tree : Forest
   pub altered : Altered reference (r .S) (editOf (r .place) (r .removed) (x .inserted)) (x .old) tree (r .kept) (r .made) (r .up)
+  pub size : size tree ≡ r .total
   pub nodes : cellsOf (altered .held) (preorder tree) ≡ r .nodes
   pub outcome : (tree' : List ℕ) → Area (r .S) tree tree' → Replies x (r .place) (r .removed) (Accepted (calls.editCounts (r .total) (r .kept) (r .made) (r .up))) tree'
 
@@ -242,12 +246,34 @@ edit-says r olds found x =
       given-up = subst (λ (o : Forest). GivenUp hs (slots o) (r .up)) q v;
     } in
     record {
+      in-range = i;
       tree = N;
       altered = a;
+      size = n;
       nodes = ap (λ (f : Facts). f .cells) h;
       outcome = λ tree' b. subst (λ (c : ℕ). Replies x (r .place) (r .removed) (Accepted (calls.editCounts c (r .kept) (r .made) (r .up))) tree') n
           (replied x (calls.altered N reference-tables (valid x) (x .long) (x .spelt) i a b));
     }
+
+-- ---- nothing else comes out
+
+pub only : {r : Row} {x : Setting (r .S) (r .sentence) (r .inserted)} (m : Remade r x) {q : Reply} {tree' : List ℕ}
+    → calls.Edits referenceTables (x .tokens) (r .place) (r .removed) (length (x .work)) (x .tree) reference q tree'
+    → (q ≡ Accepted (calls.editCounts (r .total) (r .kept) (r .made) (r .up))) × Area (r .S) (m .tree) tree'
+only m (calls.wrong-tables n) = absurd (n reference-tables)
+only {r} {x} m (calls.no-tree t n) = absurd (n (r .S) (valid x))
+only {r} {x} m (calls.short-work t v l) = absurd (omega (arith, l, x .long))
+only {r} {x} m (calls.bad-token t v l b) = absurd (bad-not-sentence b (x .spelt))
+only {r} {x} m (calls.beyond t v l s i) = absurd (omega (arith, i, m .in-range, ap (λ (f : Forest). length (yield f)) (trees-one v (valid x))))
+only {r} {x} m (calls.wrong-syntax t v l s i p) =
+    let z = calls.verdict-one reference-prepared (r .place) (r .removed) v (valid x) s (x .spelt) p (calls.altered-parses (x .some) (m .altered)) in never (cc)
+only {r} {x} m (calls.no-room t v l s i p) =
+    let z = calls.verdict-one reference-prepared (r .place) (r .removed) v (valid x) s (x .spelt) p (calls.altered-parses (x .some) (m .altered)) in never (cc)
+only {r} {x} m (calls.altered {tree' = tree'} new t v l s i p a) =
+    let b : Altered reference (r .S) (editOf (r .place) (r .removed) (x .inserted)) (x .old) new _ _ _ = rw (slots-one v (valid x), trees-one v (valid x), sentence-one s (x .spelt)) at p in
+    let q = altered-one reference-prepared (x .stored .derives) b (m .altered) in
+    let c : Area (r .S) new tree' = rw (slots-one v (valid x)) at a in
+    (rw (q .0, q .1, q .2, q .3, m .size), subst (λ (f : Forest). Area (r .S) f tree') (q .0) c)
 
 -- ---- edits that are refused
 

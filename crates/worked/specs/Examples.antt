@@ -19,7 +19,6 @@ use Rattle.tables.specs.Cells.{next, stemBits, sharedFrom, pointOf}
 use Rattle.tables.specs.Points.{point}
 use Rattle.plain.specs.Plain.{Verdict, accepted, syntax, noRoom, Parses}
 use Rattle.plain.specs.Machine.{marked}
-use Rattle.edits.specs.Keeping.{Edit}
 use Rattle.replies.specs.declared.Reason.{Reason}
 use Rattle.replies.specs.declared.Reason.the-variants.{BeyondTokens, Syntax}
 use Rattle.replies.specs.declared.Reply.the-variants.{Refused}
@@ -235,6 +234,10 @@ treeV =
     made 1 6 1 ∷ made 2 7 3 ∷ made 3 1 0 ∷ made 4 8 4 ∷ made 5 2 0 ∷ made 6 9 6 ∷ made 7 10 8 ∷ made 8 5 0 ∷ made 9 6 1 ∷ made 10 7 3 ∷ made 11 1 0 ∷ made 12 8 4 ∷ made 13 2 0 ∷ made 14 9 6 ∷
     made 15 10 8 ∷ made 16 5 0 ∷ made 17 6 2 ∷ []
 
+pub exampleH-holds : Says (edit exampleH)
+unfolding body choose reference spelled noded planted facts held matches source full void was seek orElse starts stands slotOf slotsOf grows among filled gives givenUp below
+exampleH-holds = edit-says exampleH treeV (λ w u. refl)
+
 -- every example holds
 pub examples-hold : Each Says examples
 unfolding examples run turn leaf inner grown body lit marked cell cells zeros choose reference spelled noded planted facts held matches source full void was seek orElse starts stands slotOf slotsOf grows among filled gives givenUp below
@@ -253,7 +256,7 @@ examples-hold =
     (Each.cons (parse-says 20 _ _ _ refl)
     (Each.cons (parse-says 40 _ _ _ refl)
     (Each.cons (edit-says exampleG treeU (λ w u. refl))
-    (Each.cons (edit-says exampleH treeV (λ w u. refl))
+    (Each.cons exampleH-holds
     (Each.cons (edit-says exampleI treeV (λ w u. refl))
     (Each.cons (syntax-says 20 1000 2 2 _ _ kindsV [] (omega arith) refl)
     (Each.cons (edit-says exampleK treeU (λ w u. refl))
