@@ -7,6 +7,7 @@ pub mod Run
 -- Which slots an edit keeps, computed.
 pub mod Match
 pub mod Alter
+pub mod Laid
 pub mod Edits
 -- The table of examples, and poor programs that the contract rules out.
 pub mod Examples
