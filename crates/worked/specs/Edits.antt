@@ -3,35 +3,39 @@ use Prim.Native.Nat.{ℕ, zero, suc, _+_, _*_, _≤_, _<_}
 use mathlib.Core.Path.{_≡_, refl, sym, ap, _∙_, subst}
 use mathlib.Core.Bool.{Bool, true}
 use mathlib.Core.Option.{some}
-use mathlib.Core.List.{List, [], _∷_, _++_}
+use mathlib.Core.List.{List, [], _∷_, _++_, List·Memᴰ}
 use lib.ListN.{length, take, drop}
 use lib.Dec.{leb}
 use borrow.Author.Tests.{leb-true}
 use native.Mathlib.Omega.{arith}
 use Rattle.base.specs.Choose.{never}
-use Rattle.base.specs.Blocks.{zeros}
-use Rattle.grammar.specs.Forest.{Token, kinds, Forest, size, yield, Derives}
+use Rattle.base.specs.Blocks.{zeros, length-zeros}
+use Rattle.grammar.specs.Each.{Each, each-join, each-map}
+use Rattle.grammar.specs.Grammar.{TerminalOf}
+use Rattle.grammar.specs.Forest.{Token, kinds, Forest, size, yield}
 use Rattle.grammar.specs.Trees.{kinds-append}
 use Rattle.grammar.specs.Reference.{reference, referenceImage, reference-image}
-use Rattle.trees.specs.Area.{maxSlots, slots, Area, Valid}
+use Rattle.trees.specs.Area.{maxSlots, tagSpace, slots, Distinct, Area, Valid}
+use Rattle.trees.specs.Members.{each-mem}
 use Rattle.trees.specs.Nodes.{Node, leafNode, innerNode, preorder, build}
 use Rattle.plain.specs.Plain.{syntax, Parses}
-use Rattle.plain.specs.Tokens.{Sentence, sentence-one, bad-not-sentence}
+use Rattle.plain.specs.Tokens.{Tagged, tokenBytes, Sentence}
 use Rattle.edits.specs.Keeping.{Edit, edited, Holding, keptOf, madeOf, GivenUp, Altered}
 use Rattle.edits.specs.One.{keeps-one}
-use Rattle.edits.specs.Uniqueness.{altered-one}
+use Rattle.edits.specs.Giving.{holding-held, given-spread}
 use Rattle.sentences.specs.Forming.{editOf}
+use Rattle.sentences.specs.Grounding.{each-take, each-drop, good-linked}
 use Rattle.replies.specs.declared.Reply.{Reply}
 use Rattle.replies.specs.declared.Reason.the-variants.{BeyondTokens, Syntax}
 use Rattle.replies.specs.declared.Reply.the-variants.{Accepted, Refused}
 use Rattle.kindlesap.specs.Judged.{fit, good-image}
 use Rattle.kindlesap.specs.Parse.{workAreas, upFrom, Stored, stored-one}
-use Rattle.kindlesap.specs.ReadBack.{slots-one, trees-one}
 use Rattle.kindlesap.specs.Edit as calls
 use Rattle.worked.specs.Ready.{reference-prepared}
 use Rattle.worked.specs.Entries.{referenceTables, reference-tables}
 use Rattle.worked.specs.Run.{body, run, run-right}
 use Rattle.worked.specs.Match.{held, held-right}
+use Rattle.worked.specs.Laid.{laid}
 use Rattle.worked.specs.Alter.{grows, grows-derives, gives, gives-given, givenUp, given-up-right}
 
 -- ---- what an example says of an edit
@@ -87,12 +91,48 @@ Replies x place removed r tree' = calls.EditOutcome referenceImage referenceTabl
 
 -- it is accepted with the row's counts, and the tree that it leaves has the row's nodes
 pub record Remade (r : Row) (x : Setting (r .S) (r .sentence) (r .inserted)) : Type 0 where
-  pub in-range : r .place + r .removed ≤ length (yield (x .old))
   pub tree : Forest
   pub altered : Altered reference (r .S) (editOf (r .place) (r .removed) (x .inserted)) (x .old) tree (r .kept) (r .made) (r .up)
-  pub size : size tree ≡ r .total
   pub nodes : cellsOf (altered .held) (preorder tree) ≡ r .nodes
-  pub outcome : (tree' : List ℕ) → Area (r .S) tree tree' → Replies x (r .place) (r .removed) (Accepted (calls.editCounts (r .total) (r .kept) (r .made) (r .up))) tree'
+  pub bytes : List ℕ
+  pub area : Area (r .S) tree bytes
+  pub outcome : Replies x (r .place) (r .removed) (Accepted (calls.editCounts (r .total) (r .kept) (r .made) (r .up))) bytes
+
+-- ---- of each sentence that parse stores, and each tokens to insert, there is a setting
+
+up-within : (s n : ℕ) → Each (λ x. (s ≤ x) × (x < s + n)) (upFrom s n)
+up-within s zero = Each.nil
+up-within s (suc n) = Each.cons {x = s} (omega arith, omega arith) (each-map (λ x h. (omega arith, omega arith)) (up-within (s + 1) n))
+
+up-distinct : (s n : ℕ) → Distinct (upFrom s n)
+up-distinct s zero = Distinct.nil
+up-distinct s (suc n) = Distinct.cons new (up-distinct (s + 1) n)
+  where
+    new : List·Memᴰ s (upFrom (s + 1) n) → ⊥
+    new m = let h = each-mem (upFrom (s + 1) n) (up-within (s + 1) n) m in omega arith
+
+pub setting : {S : ℕ} {w : List Token} {f : Forest} (u : List Token) → 1 ≤ S → S ≤ maxSlots → Stored reference S w f → Each Tagged w → Each (TerminalOf (reference .t)) (kinds u) → Each Tagged u
+    → Setting S (kinds w) (kinds u)
+setting {S} {w} {f} u l m h t i j =
+    let d : Distinct (slots f) = rw (h .order) (up-distinct 1 (size f)) in
+    let e : Each (λ s. (1 ≤ s) × (s ≤ S)) (slots f) = rw (h .order) (each-map (λ x y. let z = h .fits in (y .0, omega arith)) (up-within 1 (size f))) in
+    let b = laid S f d e (rw (h .yields) t) in
+    record {
+      some = l;
+      few = m;
+      sentence = w;
+      sentence-kinds = refl;
+      old = f;
+      stored = h;
+      tree = b .0;
+      area = b .1;
+      inserted = u;
+      inserted-kinds = refl;
+      tokens = tokenBytes u;
+      spelt = record { is = refl; kinds = i; tags = j };
+      work = zeros (workAreas * length (b .0));
+      long = omega (arith, length-zeros (workAreas * length (b .0)));
+    }
 
 -- ---- tokens and trees, written out but for the tags
 
@@ -119,6 +159,12 @@ spelled-is (a ∷ ks) (k ∷ w) e =
     let q : kinds w ≡ ks = cc in
     let z : k .kind ≡ a = cc in
     rw (spelled-is ks w q, ← z)
+
+-- tags that are not given are 0
+pub spelled-tags : (ks : List ℕ) → Each Tagged (spelled ks [])
+unfolding spelled
+spelled-tags [] = Each.nil
+spelled-tags (k ∷ ks) = let l : 0 < tagSpace = omega arith in Each.cons l (spelled-tags ks)
 
 -- the nodes of cells, the leaves with the tags of w
 unfoldable pub noded : List Token → List Cell → List Node
@@ -205,12 +251,32 @@ replied : {S : ℕ} {ks new : List ℕ} (x : Setting S ks new) {place removed : 
     → calls.Edits referenceTables (x .tokens) place removed (length (x .work)) (x .tree) reference r tree' → Replies x place removed r tree'
 replied x h = record { opened = good-image reference-image (fit reference-prepared h); cleared = refl }
 
--- the old tree is the one that parse leaves
-stored-is : {S : ℕ} {ks new : List ℕ} (x : Setting S ks new) (O : Forest) → grows (reference .start ∷ []) O ≡ true → yield O ≡ spelled ks (x .sentence) → leb (size O) S ≡ true → slots O ≡ upFrom 1 (size O) → O ≡ x .old
-stored-is {S} {ks} x O d y f o =
-    stored-one reference-prepared
-    (record { derives = grows-derives (reference .start ∷ []) O d; yields = y ∙ spelled-is ks (x .sentence) (x .sentence-kinds); fits = leb-true (size O) S f; order = o })
-    (x .stored)
+-- the old tree is one that parse leaves
+pub stored-found : (r : Row) (olds : List Cell) → Found r olds → (w u : List Token) → Stored reference (r .S) (spelled (r .sentence) w) (planted (spelled (r .sentence) w) olds)
+unfolding facts
+stored-found r olds found w u =
+    let O : Forest = planted (spelled (r .sentence) w) olds in
+    let h = found w u in
+    record {
+      derives = grows-derives (reference .start ∷ []) O (ap (λ (f : Facts). f .old-derives) h);
+      yields = ap (λ (f : Facts). f .old-yields) h;
+      fits = leb-true (size O) (r .S) (ap (λ (f : Facts). f .old-fits) h);
+      order = ap (λ (f : Facts). f .old-slots) h;
+    }
+
+-- the new tree has an area
+altered-laid : {S place removed k m u : ℕ} {ks new : List ℕ} (x : Setting S ks new) {N : Forest} → Altered reference S (editOf place removed (x .inserted)) (x .old) N k m u → (b : List ℕ) × Area S N b
+altered-laid {S} {place} {removed} x {N} a =
+    let w : List Token = yield (x .old) in
+    let h = holding-held reference-prepared (a .derives) (x .area) (a .holding) in
+    let q = given-spread h (omega (arith, a .holding .long, a .fits)) (a .given) in
+    let o : Each Tagged w = good-linked (x .area .linked) in
+    let t : Each Tagged (edited (editOf place removed (x .inserted)) w) = each-join (each-take place w o) (each-join (x .spelt .tags) (each-drop (place + removed) w o)) in
+    laid S N (q .0) (q .1) (subst (λ (v : List Token). Each Tagged v) (sym (a .yields)) t)
+
+accepts : {S place removed k m u : ℕ} {ks new : List ℕ} (x : Setting S ks new) (N : Forest) → place + removed ≤ length (yield (x .old)) → Altered reference S (editOf place removed (x .inserted)) (x .old) N k m u
+    → (b : List ℕ) → Area S N b → Replies x place removed (Accepted (calls.editCounts (size N) k m u)) b
+accepts x N i a b c = replied x (calls.altered N reference-tables (valid x) (x .long) (x .spelt) i a c)
 
 pub edit-says : (r : Row) (olds : List Cell) → Found r olds → (x : Setting (r .S) (r .sentence) (r .inserted)) → Remade r x
 unfolding facts
@@ -222,12 +288,12 @@ edit-says r olds found x =
     let O : Forest = planted W olds in
     let N : Forest = planted (edited e W) (r .nodes) in
     let h : facts S e O N ≡ right r (size O) W (edited e W) = found (x .sentence) (x .inserted) in
-    let y : yield O ≡ W = ap (λ (f : Facts). f .old-yields) h in
-    let q : O ≡ x .old = stored-is x O (ap (λ (f : Facts). f .old-derives) h) y (ap (λ (f : Facts). f .old-fits) h) (ap (λ (f : Facts). f .old-slots) h) in
+    let t : Stored reference S W O = stored-found r olds found (x .sentence) (x .inserted) in
+    let y : yield O ≡ W = t .yields in
+    let q : O ≡ x .old = stored-one reference-prepared t (subst (λ (w : List Token). Stored reference S w (x .old)) (sym (spelled-is (r .sentence) (x .sentence) (x .sentence-kinds))) (x .stored)) in
     let p : U ≡ x .inserted = spelled-is (r .inserted) (x .inserted) (x .inserted-kinds) in
     let hs : List ℕ = held e O N in
-    let d : Derives reference (reference .start ∷ []) O = grows-derives (reference .start ∷ []) O (ap (λ (f : Facts). f .old-derives) h) in
-    let z : Holding e O N hs = held-right (λ a' a b. keeps-one reference-prepared d) in
+    let z : Holding e O N hs = held-right (λ a' a b. keeps-one reference-prepared (t .derives)) in
     let n : size N ≡ r .total = ap (λ (f : Facts). f .total) h in
     let l : r .place + r .removed ≤ length (yield O) = leb-true (r .place + r .removed) (length (yield O)) (ap (λ (f : Facts). f .in-range) h) in
     let i : r .place + r .removed ≤ length (yield (x .old)) = subst (λ (o : Forest). r .place + r .removed ≤ length (yield o)) q l in
@@ -245,35 +311,15 @@ edit-says r olds found x =
       made-count = sym (ap (λ (f : Facts). f .made) h);
       given-up = subst (λ (o : Forest). GivenUp hs (slots o) (r .up)) q v;
     } in
+    let c : (b : List ℕ) × Area S N b = altered-laid x a in
     record {
-      in-range = i;
       tree = N;
       altered = a;
-      size = n;
       nodes = ap (λ (f : Facts). f .cells) h;
-      outcome = λ tree' b. subst (λ (c : ℕ). Replies x (r .place) (r .removed) (Accepted (calls.editCounts c (r .kept) (r .made) (r .up))) tree') n
-          (replied x (calls.altered N reference-tables (valid x) (x .long) (x .spelt) i a b));
+      bytes = c .0;
+      area = c .1;
+      outcome = subst (λ (t : ℕ). Replies x (r .place) (r .removed) (Accepted (calls.editCounts t (r .kept) (r .made) (r .up))) (c .0)) n (accepts x N i a (c .0) (c .1));
     }
-
--- ---- nothing else comes out
-
-pub only : {r : Row} {x : Setting (r .S) (r .sentence) (r .inserted)} (m : Remade r x) {q : Reply} {tree' : List ℕ}
-    → calls.Edits referenceTables (x .tokens) (r .place) (r .removed) (length (x .work)) (x .tree) reference q tree'
-    → (q ≡ Accepted (calls.editCounts (r .total) (r .kept) (r .made) (r .up))) × Area (r .S) (m .tree) tree'
-only m (calls.wrong-tables n) = absurd (n reference-tables)
-only {r} {x} m (calls.no-tree t n) = absurd (n (r .S) (valid x))
-only {r} {x} m (calls.short-work t v l) = absurd (omega (arith, l, x .long))
-only {r} {x} m (calls.bad-token t v l b) = absurd (bad-not-sentence b (x .spelt))
-only {r} {x} m (calls.beyond t v l s i) = absurd (omega (arith, i, m .in-range, ap (λ (f : Forest). length (yield f)) (trees-one v (valid x))))
-only {r} {x} m (calls.wrong-syntax t v l s i p) =
-    let z = calls.verdict-one reference-prepared (r .place) (r .removed) v (valid x) s (x .spelt) p (calls.altered-parses (x .some) (m .altered)) in never (cc)
-only {r} {x} m (calls.no-room t v l s i p) =
-    let z = calls.verdict-one reference-prepared (r .place) (r .removed) v (valid x) s (x .spelt) p (calls.altered-parses (x .some) (m .altered)) in never (cc)
-only {r} {x} m (calls.altered {tree' = tree'} new t v l s i p a) =
-    let b : Altered reference (r .S) (editOf (r .place) (r .removed) (x .inserted)) (x .old) new _ _ _ = rw (slots-one v (valid x), trees-one v (valid x), sentence-one s (x .spelt)) at p in
-    let q = altered-one reference-prepared (x .stored .derives) b (m .altered) in
-    let c : Area (r .S) new tree' = rw (slots-one v (valid x)) at a in
-    (rw (q .0, q .1, q .2, q .3, m .size), subst (λ (f : Forest). Area (r .S) f tree') (q .0) c)
 
 -- ---- edits that are refused
 

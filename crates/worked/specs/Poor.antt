@@ -38,8 +38,8 @@ use Rattle.worked.specs.Entries.{cell, referenceTables, reference-tables
 use Rattle.worked.specs.Run.{body, lit, leaf, grown, inner, turn, run}
 use Rattle.worked.specs.Match.{orElse, seek, starts, stands, was, full, void, source, matches, slotOf, slotsOf, held}
 use Rattle.worked.specs.Alter.{grows, among, filled, gives, givenUp}
-use Rattle.worked.specs.Edits.{Cell, kept, made, cellsOf, Row, Setting, Remade, spelled, noded, planted, facts, edit-says, only, syntax-says}
-use Rattle.worked.specs.Examples.{kindsU, kindsV, treeU, exampleH, exampleH-holds, parse-says}
+use Rattle.worked.specs.Edits.{Cell, kept, made, cellsOf, Row, Setting, Remade, setting, spelled, spelled-tags, noded, planted, facts, stored-found, edit-says, syntax-says}
+use Rattle.worked.specs.Examples.{kindsU, kindsV, treeU, treeV, exampleH, exampleH-holds, parse-says}
 
 -- the reference image passes replies 1 to 3
 opened-reference : {Q : Grammar → Reply → List ℕ → Type 0} {w w' : List ℕ} {r : Reply} → Opened referenceImage Q w r w' → Q reference r w'
@@ -172,14 +172,14 @@ stored-root (Forest.node s M p k r) h e = let q = h .order in let z : s ≡ 1 = 
 
 -- example H: of V, at 0 remove 3
 module _ (x : Setting 1000 kindsV []) {q : Reply} {tree' work' : List ℕ} (h : calls.EditOutcome referenceImage referenceTables (x .tree) 0 3 (x .tokens) (x .work) q tree' work') where
-  comes : (q ≡ Accepted (calls.editCounts 9 9 0 8)) × Area 1000 (exampleH-holds x .tree) tree'
-  comes = only (exampleH-holds x) (opened-reference (h .opened))
+  comes : (q ≡ Accepted (calls.editCounts 9 9 0 8)) × (tree' ≡ exampleH-holds x .bytes) × (work' ≡ zeros (length (x .work)))
+  comes = calls.edit-one h (exampleH-holds x .outcome)
 
   -- the tree that it leaves has its root in slot 9
   root-nine : (v : Valid reference 1000 tree') → top (v .tree) ≡ 9
   root-nine v =
       let m : Remade exampleH x = exampleH-holds x in
-      let u : Valid reference 1000 tree' = record { some = v .some; few = v .few; tree = m .tree; derives = m .altered .derives; area = comes .1 } in
+      let u : Valid reference 1000 tree' = record { some = v .some; few = v .few; tree = m .tree; derives = m .altered .derives; area = rw (comes .1) (m .area) } in
       ap top (trees-one v u) ∙ root-slot (m .altered .held) (m .tree) _ _ (m .nodes)
 
   -- no program refuses everything
@@ -188,20 +188,11 @@ module _ (x : Setting 1000 kindsV []) {q : Reply} {tree' work' : List ℕ} (h : 
 
   -- no program touches nothing
   pub edit-not-untouched : tree' ≡ x .tree → ⊥
-  edit-not-untouched e =
-      stored-root (x .old) (x .stored) (root-nine (record { some = x .some; few = x .few; tree = x .old; derives = x .stored .derives; area = rw e (x .area) }))
+  edit-not-untouched e = stored-root (x .old) (x .stored) (root-nine (record { some = x .some; few = x .few; tree = x .old; derives = x .stored .derives; area = rw e (x .area) }))
 
   -- no program stores the tree that parse does
   pub edit-not-reparsed : (f : Forest) (w : List Token) → Stored reference 1000 w f → Area 1000 f tree' → ⊥
   edit-not-reparsed f w s a = stored-root f s (root-nine (record { some = x .some; few = x .few; tree = f; derives = s .derives; area = a }))
-
-  -- no program has one reply for all, not even for all edits of one tree: example J is of the same
-  pub edit-not-one-reply : (tree'' work'' : List ℕ) → calls.EditOutcome referenceImage referenceTables (x .tree) 2 2 (x .tokens) (x .work) q tree'' work'' → ⊥
-  unfolding run turn leaf inner grown body lit marked cell cells zeros choose reference
-  edit-not-one-reply tree'' work'' k =
-      let z = comes .0 in
-      let y = calls.edit-one k (syntax-says 20 1000 2 2 2 56 kindsV [] (omega arith) refl x) .0 in
-      never (cc)
 
 -- U, at 1 remove 1, insert `2`: the new token is equal to the removed one, "still new". List and host, which start with it, and Rest, whose parent List is, are made
 abbrev pub equalToken : Row
@@ -225,7 +216,7 @@ equal-token = edit-says equalToken treeU (λ w u. refl)
 
 module _ (x : Setting 1000 kindsU (2 ∷ [])) {q : Reply} {tree' work' : List ℕ} (h : calls.EditOutcome referenceImage referenceTables (x .tree) 1 1 (x .tokens) (x .work) q tree' work') where
   pub equal-token-counts : q ≡ Accepted (calls.editCounts 9 6 3 3)
-  equal-token-counts = only (equal-token x) (opened-reference (h .opened)) .0
+  equal-token-counts = calls.edit-one h (equal-token x .outcome) .0
 
   -- no program keeps a node whose first token is new, though equal to a removed one
   pub edit-not-equal-kept : q ≡ Accepted (calls.editCounts 9 9 0 0) → ⊥
@@ -234,6 +225,23 @@ module _ (x : Setting 1000 kindsU (2 ∷ [])) {q : Reply} {tree' work' : List �
   -- nor a node without tokens whose parent is not kept
   pub edit-not-void-kept : q ≡ Accepted (calls.editCounts 9 7 2 2) → ⊥
   edit-not-void-kept e = absurd (omega (arith, ap (λ (r : Reply). countsOf r .kept) (sym equal-token-counts ∙ e)))
+
+-- there is such a tree: V with tags 0
+settingV : Setting 1000 kindsV []
+unfolding body choose reference spelled noded planted facts held matches source full void was seek orElse starts stands slotOf slotsOf grows among filled gives givenUp below
+settingV = setting [] (omega arith) (omega arith) (stored-found exampleH treeV (λ w u. refl) [] []) (spelled-tags kindsV) Each.nil Each.nil
+
+-- no program has one reply for all, not even for all edits of one tree: examples H and J
+pub edit-not-one-reply : (r : Reply) → ((tree : List ℕ) (place removed : ℕ) (tokens work : List ℕ)
+    → (tree' : List ℕ) × (work' : List ℕ) × calls.EditOutcome referenceImage referenceTables tree place removed tokens work r tree' work') → ⊥
+unfolding run turn leaf inner grown body lit marked cell cells zeros choose reference
+edit-not-one-reply r f =
+    let x : Setting 1000 kindsV [] = settingV in
+    let a = f (x .tree) 0 3 (x .tokens) (x .work) in
+    let b = f (x .tree) 2 2 (x .tokens) (x .work) in
+    let y = comes x (a .2) .0 in
+    let z = calls.edit-one (b .2) (syntax-says 20 1000 2 2 2 56 kindsV [] (omega arith) refl x) .0 in
+    never (cc)
 
 -- of any grammar and any valid tree: what an accepted edit leaves is a tree of the new sentence
 module _ {image tables tree tokens : List ℕ} {place removed S : ℕ} {G : Grammar} {w : List Token} (i : Image image G) (v : Valid G S tree) (s : Sentence (G .t) tokens w) (c : Counts) where
