@@ -3,3 +3,6 @@ pub mod Treed
 pub mod Outcome
 -- The new tree's nodes get their slots.
 pub mod Settling
+pub mod Parts
+-- The ways through the code.
+pub mod Altering

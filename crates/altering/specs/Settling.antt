@@ -195,6 +195,12 @@ module _ (rows : List ℕ) (t n start count S : ℕ) (e : Edit) (tree w : List �
     pub both-old-nodes : Old S k ms
     both-old-nodes = record { each = λ i l. omega (arith, few .each i, treed-fits rows t n start count S tree w o (h .old)) }
 
+    pub both-few : (r : ℕ) → Counts w ms k r → r ≤ o
+    both-few r c =
+        let u = given-up-some hs (slots old) in
+        let x = kept-given-up (h .old .valid .area) (both-fit .held) holding (u .1) in
+        omega (arith, c .count, h .old .count)
+
     -- ---- the new tree in its slots
 
     module _ {w' : List ℕ} (g : Gives w S k hs w') where
