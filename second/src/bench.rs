@@ -1,10 +1,11 @@
 //! How long the calls take, next to plain copies of the buffers concerned.
 
+use crate::grammar::Grammar;
 use crate::parse::{self, WORK_AREAS};
 use crate::prepare;
 use crate::read_back;
-use crate::reply::Reply;
-use crate::tables::TABLE_BYTES;
+use crate::show;
+use crate::tables::{self, TABLE_BYTES};
 use crate::tokens::{self, TOKEN_BYTES};
 use crate::tree::{self, area_bytes, MAX_SLOTS};
 use std::hint::black_box;
@@ -30,22 +31,16 @@ pub fn prepare(count: NonZeroU32, image: &[u8]) -> String {
 /// parse alone when all is checked, and of one copy of the tree area, of the
 /// tables and of the work area; or the refusal of the sentence.
 pub fn parse(count: NonZeroU32, image: &[u8], token_bytes: &[u8]) -> Result<String, String> {
-    let mut tables = [0; TABLE_BYTES];
-    prepare::prepare(image, &mut tables);
-    let mut area = vec![0; AREA_BYTES];
-    let mut work = vec![0; WORK_BYTES];
-    accepted(parse::parse(
-        image,
-        &tables,
-        token_bytes,
-        &mut area,
-        &mut work,
-    ))?;
+    let Parsed {
+        grammar,
+        tables,
+        mut area,
+        mut work,
+    } = Parsed::of(image, token_bytes)?;
     let call = nanoseconds(count, || {
         let (area, work) = (black_box(&mut area), black_box(&mut work));
         black_box(parse::parse(image, &tables, token_bytes, area, work));
     });
-    let (grammar, _) = prepare::ll1_grammar(image).expect("parse accepts the image");
     let tokens = tokens::read(token_bytes, grammar.t).expect("parse accepts the tokens");
     let alone = nanoseconds(count, || {
         let area = black_box(&mut area);
@@ -62,23 +57,12 @@ pub fn parse(count: NonZeroU32, image: &[u8], token_bytes: &[u8]) -> Result<Stri
 /// the walk that tells a valid tree alone, and of one copy of the tree area
 /// and of the tokens; or the refusal of the sentence.
 pub fn read_back(count: NonZeroU32, image: &[u8], token_bytes: &[u8]) -> Result<String, String> {
-    let mut tables = [0; TABLE_BYTES];
-    prepare::prepare(image, &mut tables);
-    let mut area = vec![0; AREA_BYTES];
-    let mut work = vec![0; WORK_BYTES];
-    accepted(parse::parse(
-        image,
-        &tables,
-        token_bytes,
-        &mut area,
-        &mut work,
-    ))?;
+    let Parsed { grammar, area, .. } = Parsed::of(image, token_bytes)?;
     let mut output = vec![0; MAX_SLOTS * TOKEN_BYTES];
     let call = nanoseconds(count, || {
         let output = black_box(&mut output);
         black_box(read_back::read_back(image, black_box(&area), output));
     });
-    let (grammar, _) = prepare::ll1_grammar(image).expect("parse accepts the image");
     let walk = nanoseconds(count, || {
         black_box(tree::read(&grammar, black_box(&area)));
     });
@@ -89,12 +73,31 @@ pub fn read_back(count: NonZeroU32, image: &[u8], token_bytes: &[u8]) -> Result<
     ))
 }
 
-/// A refusal as an error.
-fn accepted(reply: Reply) -> Result<(), String> {
-    if reply.is_accepted() {
-        Ok(())
-    } else {
-        Err(format!("refused {} {}", reply.number, reply.place))
+/// The tree of a sentence in 1,000 slots, and what the calls on it are lent.
+struct Parsed {
+    grammar: Grammar,
+    tables: Vec<u8>,
+    area: Vec<u8>,
+    work: Vec<u8>,
+}
+
+impl Parsed {
+    /// Parses a sentence, or gives the refusal of it.
+    fn of(image: &[u8], token_bytes: &[u8]) -> Result<Parsed, String> {
+        let (grammar, _) = prepare::ll1_grammar(image).map_err(show::refused)?;
+        let tables = tables::of(&grammar);
+        let mut area = vec![0; AREA_BYTES];
+        let mut work = vec![0; WORK_BYTES];
+        let reply = parse::parse(image, &tables, token_bytes, &mut area, &mut work);
+        if !reply.is_accepted() {
+            return Err(show::refused(reply));
+        }
+        Ok(Parsed {
+            grammar,
+            tables,
+            area,
+            work,
+        })
     }
 }
 

@@ -115,13 +115,13 @@ fn run(words: &[&str]) -> Result<ExitCode, Box<dyn Error>> {
             Ok(status(failed))
         }
         ["prepares", seed, count, ref command @ ..] => {
-            compare_calls(prepare_case::case, seed, count, command)
+            compare_calls(prepare_case::cases, seed, count, command)
         }
         ["parses", seed, count, ref command @ ..] => {
-            compare_calls(parse_case::case, seed, count, command)
+            compare_calls(parse_case::cases, seed, count, command)
         }
         ["reads", seed, count, ref command @ ..] => {
-            compare_calls(read_back_case::case, seed, count, command)
+            compare_calls(read_back_case::cases, seed, count, command)
         }
         ["bench-prepare", count, source] => {
             println!("{}", bench::prepare(count.parse()?, &read_source(source)?));
@@ -147,8 +147,8 @@ fn run(words: &[&str]) -> Result<ExitCode, Box<dyn Error>> {
 }
 
 /// Compares the calls of a program, which comes with its arguments.
-fn compare_calls<C: calls::Case>(
-    case: fn(u64, usize) -> C,
+fn compare_calls<C: calls::Case, I: Iterator<Item = C> + Send + 'static>(
+    cases: fn(u64) -> I,
     seed: &str,
     count: &str,
     command: &[&str],
@@ -157,7 +157,7 @@ fn compare_calls<C: calls::Case>(
     let mut command = Command::new(program);
     command.args(arguments);
     let (seed, count) = (seed.parse()?, count.parse()?);
-    let failed = calls::calls(case, seed, count, &mut command, &mut io::stdout())?;
+    let failed = calls::calls(cases(seed), seed, count, &mut command, &mut io::stdout())?;
     Ok(status(failed))
 }
 

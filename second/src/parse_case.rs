@@ -16,7 +16,6 @@ use crate::tables::{self, TABLE_BYTES};
 use crate::token_damage;
 use crate::tokens::{self, Token};
 use crate::tree::{self, area_bytes, MAX_SLOTS};
-use std::io::{self, Read};
 
 /// The byte with which a case of parse begins.
 const PARSE: u8 = b'S';
@@ -55,9 +54,14 @@ pub enum Tables {
     },
 }
 
+/// The cases of a seed.
+pub fn cases(seed: u64) -> impl Iterator<Item = Case> {
+    (0..).map(move |number| case(seed, number))
+}
+
 /// A case of a seed. The first cases are examples C to F; of the others, every
 /// third has many faults at once.
-pub fn case(seed: u64, number: usize) -> Case {
+fn case(seed: u64, number: usize) -> Case {
     if let Some(case) = example(number) {
         return case;
     }
@@ -310,22 +314,11 @@ impl Tables {
     }
 }
 
-impl Case {
-    /// The answer that the buffers of a call make.
-    fn answer(&self, area: Vec<u8>, inputs_unchanged: [u8; 1], work_is_zero: [u8; 1]) -> Answer {
-        Answer {
-            reply: vec![self.fill; self.reply_length],
-            others: vec![
-                ("tree", area),
-                ("sign that no input changed", inputs_unchanged.to_vec()),
-                ("sign that the work area is zero", work_is_zero.to_vec()),
-            ],
-        }
-    }
-}
-
 impl calls::Case for Case {
     const REPLIES: &'static [usize] = &[0, 1, 2, 3, 4, 5, 6, 7, 9, 10];
+    const WRITTEN: &'static str = "tree";
+    const SIGNS: &'static [&'static str] =
+        &["image, tables and tokens unchanged", "work area zero"];
 
     /// The letter of the call, how the tables are sent, the lengths of image,
     /// tables, tokens, tree, work and reply, the fill byte, the image, the
@@ -355,30 +348,23 @@ impl calls::Case for Case {
         parts.concat()
     }
 
-    fn expected(&self) -> (Reply, Answer) {
-        let tables = self.tables.bytes(&self.image, self.fill);
-        let mut area = self.area.clone();
-        let mut work = vec![self.fill; self.work_length];
-        let reply = parse(&self.image, &tables, &self.tokens, &mut area, &mut work);
-        let work_is_zero = work.iter().all(|&byte| byte == 0);
-        let mut answer = self.answer(area, [1], [work_is_zero.into()]);
-        reply.write(&mut answer.reply);
-        (reply, answer)
+    fn before(&self) -> Answer {
+        Answer {
+            reply: vec![self.fill; self.reply_length],
+            written: self.area.clone(),
+            signs: vec![1; 2],
+        }
     }
 
-    /// The reply, 0 if the tree area is still as before or 1 and the area, 1
-    /// if image, tables and tokens are as before, 1 if all work bytes are 0.
-    fn read_answer(&self, answers: &mut impl Read) -> io::Result<Answer> {
-        let mut reply = vec![0; self.reply_length];
-        answers.read_exact(&mut reply)?;
-        let mut area = self.area.clone();
-        calls::read_buffer(answers, &mut area)?;
-        let inputs_unchanged = calls::read_sign(answers)?;
-        let work_is_zero = calls::read_sign(answers)?;
-        Ok(Answer {
-            reply,
-            ..self.answer(area, inputs_unchanged, work_is_zero)
-        })
+    fn expected(&self) -> (Reply, Answer) {
+        let mut answer = self.before();
+        let tables = self.tables.bytes(&self.image, self.fill);
+        let mut work = vec![self.fill; self.work_length];
+        let area = &mut answer.written;
+        let reply = parse(&self.image, &tables, &self.tokens, area, &mut work);
+        reply.write(&mut answer.reply);
+        answer.signs[1] = work.iter().all(|&byte| byte == 0).into();
+        (reply, answer)
     }
 
     fn text(&self) -> String {

@@ -17,7 +17,6 @@ use crate::show;
 use crate::tables;
 use crate::tokens::{self, Token, TOKEN_BYTES};
 use crate::tree::{self, area_bytes, MAX_SLOTS};
-use std::io::{self, Read};
 
 /// The byte with which a case of read back begins.
 const READ_BACK: u8 = b'R';
@@ -36,9 +35,14 @@ pub struct Case {
     pub fill: u8,
 }
 
+/// The cases of a seed.
+pub fn cases(seed: u64) -> impl Iterator<Item = Case> {
+    (0..).map(move |number| case(seed, number))
+}
+
 /// A case of a seed. The first cases are the trees of the empty sentence, of U
 /// and of V; of the others, every third has a tree as it was written.
-pub fn case(seed: u64, number: usize) -> Case {
+fn case(seed: u64, number: usize) -> Case {
     if let Some(case) = example(number) {
         return case;
     }
@@ -155,26 +159,10 @@ fn other_image(random: &mut Random, grammar: &Grammar) -> (&'static str, Vec<u8>
     (kind, image::records(&other).concat())
 }
 
-impl Case {
-    /// The answer that the buffers of a call make.
-    fn answer(&self, output: Vec<u8>, inputs_unchanged: [u8; 1]) -> Answer {
-        Answer {
-            reply: vec![self.fill; self.reply_length],
-            others: vec![
-                ("output", output),
-                ("sign that no input changed", inputs_unchanged.to_vec()),
-            ],
-        }
-    }
-
-    /// The output before the call.
-    fn output(&self) -> Vec<u8> {
-        vec![self.fill; self.output_length]
-    }
-}
-
 impl calls::Case for Case {
     const REPLIES: &'static [usize] = &[0, 1, 2, 3, 5, 11];
+    const WRITTEN: &'static str = "output";
+    const SIGNS: &'static [&'static str] = &["image and tree unchanged"];
 
     /// The letter of the call, the lengths of image, tree, output and reply,
     /// the fill byte, the image, the tree area.
@@ -195,26 +183,19 @@ impl calls::Case for Case {
         parts.concat()
     }
 
-    fn expected(&self) -> (Reply, Answer) {
-        let mut output = self.output();
-        let reply = read_back(&self.image, &self.area, &mut output);
-        let mut answer = self.answer(output, [1]);
-        reply.write(&mut answer.reply);
-        (reply, answer)
+    fn before(&self) -> Answer {
+        Answer {
+            reply: vec![self.fill; self.reply_length],
+            written: vec![self.fill; self.output_length],
+            signs: vec![1],
+        }
     }
 
-    /// The reply, 0 if the output is still full of the fill byte or 1 and the
-    /// output, 1 if image and tree area are as before.
-    fn read_answer(&self, answers: &mut impl Read) -> io::Result<Answer> {
-        let mut reply = vec![0; self.reply_length];
-        answers.read_exact(&mut reply)?;
-        let mut output = self.output();
-        calls::read_buffer(answers, &mut output)?;
-        let inputs_unchanged = calls::read_sign(answers)?;
-        Ok(Answer {
-            reply,
-            ..self.answer(output, inputs_unchanged)
-        })
+    fn expected(&self) -> (Reply, Answer) {
+        let mut answer = self.before();
+        let reply = read_back(&self.image, &self.area, &mut answer.written);
+        reply.write(&mut answer.reply);
+        (reply, answer)
     }
 
     fn text(&self) -> String {

@@ -1,24 +1,13 @@
 //! What is written about the answers to cases of prepare, and what is sent.
 
 use super::*;
+use crate::parse_case;
 use crate::prepare_case;
 
 const SEED: u64 = 7;
 
 fn cases(count: usize) -> Vec<prepare_case::Case> {
-    (0..count)
-        .map(|number| prepare_case::case(SEED, number))
-        .collect()
-}
-
-/// The right answer to a case as the other program gives it.
-fn right_answer(case: &prepare_case::Case) -> Vec<u8> {
-    let (reply, answer) = case.expected();
-    if reply.number == 0 {
-        [&answer.reply[..], &[1], &answer.others[0].1].concat()
-    } else {
-        [&answer.reply[..], &[0]].concat()
-    }
+    prepare_case::cases(SEED).take(count).collect()
 }
 
 /// The tally and the text for these answers to the first cases.
@@ -30,7 +19,7 @@ fn report(count: usize, answers: &[Vec<u8>]) -> (Tally, String) {
 }
 
 fn right_answers(count: usize) -> Vec<Vec<u8>> {
-    cases(count).iter().map(right_answer).collect()
+    cases(count).iter().map(checks::right_answer).collect()
 }
 
 fn totals(tally: &Tally, count: usize) -> (usize, String) {
@@ -76,6 +65,19 @@ fn a_different_reply_is_a_difference() {
     assert!(text.contains("the second program replies: 01 00 00 00 2d 00"));
     assert!(text.contains("the other program replies:  01 00 00 00 2e 00"));
     assert!(text.ends_with("tables: the same\n"));
+}
+
+#[test]
+fn a_different_sign_is_written_with_what_it_says() {
+    let case = parse_case::cases(SEED).next().expect("there are cases");
+    let mut answer = checks::right_answer(&case);
+    *answer.last_mut().expect("a sign") = 0;
+    let mut out = Vec::new();
+    let tally = compare(SEED, [case], &answer[..], &mut out).expect("nothing to fail");
+    assert_eq!(tally.passed, 0);
+    let text = String::from_utf8(out).expect("the report is text");
+    let end = "tree: the same\nwork area zero: the second program has 1, the other 0\n";
+    assert!(text.ends_with(end), "{text}");
 }
 
 #[test]
@@ -131,7 +133,8 @@ fn cases_are_written_in_order() {
 #[test]
 fn a_program_that_is_not_there_is_an_error() {
     let mut program = Command::new("no-such-program");
-    assert!(calls(prepare_case::case, SEED, 1, &mut program, &mut Vec::new()).is_err());
+    let cases = prepare_case::cases(SEED);
+    assert!(calls(cases, SEED, 1, &mut program, &mut Vec::new()).is_err());
 }
 
 #[test]

@@ -1,7 +1,7 @@
 //! How cases are written and answers read, and what the generated cases reach.
 
 use super::*;
-use crate::calls::Case as _;
+use crate::calls::{checks, Case as _};
 use crate::samples;
 
 fn small_case(tables: Tables) -> Case {
@@ -15,18 +15,6 @@ fn small_case(tables: Tables) -> Case {
         reply_length: 2,
         fill: 0xaa,
     }
-}
-
-/// The right answer to a case as the other program gives it.
-fn right_answer(case: &Case) -> Vec<u8> {
-    let (_, answer) = case.expected();
-    let area = &answer.others[0].1;
-    let tree = if *area == case.area {
-        vec![0]
-    } else {
-        [&[1][..], area].concat()
-    };
-    [&answer.reply[..], &tree, &[1, 1]].concat()
 }
 
 #[test]
@@ -79,7 +67,7 @@ fn prepared_tables_are_changed_then_cut_or_lengthened() {
 
 #[test]
 fn the_first_cases_are_examples_c_to_f() {
-    let replies: Vec<Reply> = (0..6).map(|number| case(1, number).expected().0).collect();
+    let replies: Vec<Reply> = cases(1).take(6).map(|case| case.expected().0).collect();
     let expected = [
         Reply::parsed(1),
         Reply::parsed(9),
@@ -92,37 +80,9 @@ fn the_first_cases_are_examples_c_to_f() {
 }
 
 #[test]
-fn right_answers_are_read_as_such() {
-    for number in 0..300 {
-        let case = case(3, number);
-        let bytes = right_answer(&case);
-        let mut rest = &bytes[..];
-        let answer = case.read_answer(&mut rest).expect("a whole answer");
-        assert_eq!(answer, case.expected().1);
-        assert_eq!(rest, []);
-    }
-}
-
-#[test]
-fn signs_other_than_1_are_differences() {
-    let case = case(1, 0);
-    let right = right_answer(&case);
-    for from_end in [1, 2] {
-        let mut wrong = right.clone();
-        let place = wrong.len() - from_end;
-        wrong[place] = 0;
-        let answer = case.read_answer(&mut &wrong[..]).expect("a whole answer");
-        assert_ne!(answer, case.expected().1);
-    }
-}
-
-#[test]
-fn a_cut_answer_is_an_error() {
-    let case = case(1, 0);
-    let right = right_answer(&case);
-    for length in 0..right.len() {
-        assert!(case.read_answer(&mut &right[..length]).is_err());
-    }
+fn answers_are_read() {
+    checks::assert_right_answers_are_read(cases(3).take(300));
+    checks::assert_wrong_answers_are_told(&case(1, 0));
 }
 
 #[test]
@@ -145,23 +105,12 @@ fn a_case_is_shown_whole() {
 
 #[test]
 fn cases_get_every_reply_and_a_fifth_of_them_is_accepted() {
-    let mut counts = [0; 12];
-    for number in 0..2_000 {
-        let (reply, _) = case(1, number).expected();
-        counts[reply.number as usize] += 1;
-    }
-    assert!(counts[0] > 2_000 / 5, "{counts:?}");
-    let replies = Case::REPLIES;
-    assert!(
-        replies.iter().all(|&number| counts[number] > 50),
-        "{counts:?}"
-    );
-    assert_eq!(counts[8] + counts[11], 0);
+    checks::assert_replies(cases(1).take(2_000), 2_000 / 5, 50);
 }
 
 #[test]
 fn cases_reach_every_length() {
-    let cases: Vec<Case> = (0..1_500).map(|number| case(2, number)).collect();
+    let cases: Vec<Case> = cases(2).take(1_500).collect();
     let some = |wanted: &dyn Fn(&Case) -> bool| cases.iter().any(wanted);
     assert!((0..=40).all(|length| some(&|case| case.reply_length == length)));
     assert!([0, 1, 33_791, 33_792, 33_793]
@@ -181,8 +130,7 @@ fn cases_reach_every_length() {
 fn some_accepted_trees_are_large_and_some_fill_their_area() {
     let mut large = 0;
     let mut full = 0;
-    for number in 0..1_000 {
-        let case = case(2, number);
+    for case in cases(2).take(1_000) {
         let (reply, _) = case.expected();
         large += usize::from(reply.total > 900);
         full += usize::from(reply.total > 1 && area_bytes(reply.total as usize) == case.area.len());
@@ -192,8 +140,5 @@ fn some_accepted_trees_are_large_and_some_fill_their_area() {
 
 #[test]
 fn seed_and_number_settle_a_case() {
-    for number in 0..200 {
-        assert_eq!(case(5, number), case(5, number));
-    }
-    assert!((6..100).any(|number| case(5, number) != case(6, number)));
+    checks::assert_seed_settles(cases, 6);
 }
