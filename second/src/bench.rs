@@ -1,9 +1,12 @@
 //! How long the calls take, next to plain copies of the buffers concerned.
 
+use crate::book;
+use crate::edit::{self, Change};
 use crate::grammar::Grammar;
 use crate::parse::{self, WORK_AREAS};
 use crate::prepare;
 use crate::read_back;
+use crate::reply::Reply;
 use crate::show;
 use crate::tables::{self, TABLE_BYTES};
 use crate::tokens::{self, TOKEN_BYTES};
@@ -15,6 +18,9 @@ use std::time::Instant;
 /// The length of the tree area of 1,000 slots and of its work area.
 const AREA_BYTES: usize = area_bytes(MAX_SLOTS);
 const WORK_BYTES: usize = WORK_AREAS * AREA_BYTES;
+
+/// Into how many batches the calls of an edit are split.
+const BATCHES: u32 = 20;
 
 /// A line with the nanoseconds of one call of prepare, whichever reply it
 /// gives, and those of one copy of the tables.
@@ -73,6 +79,34 @@ pub fn read_back(count: NonZeroU32, image: &[u8], token_bytes: &[u8]) -> Result<
     ))
 }
 
+/// A line with the nanoseconds of each edit of a book in 1,000 slots, and of
+/// one copy of the tree area, of the tables and of the work area; or the
+/// refusal of the book. Each edit finds the tree as it was parsed, by a copy
+/// that its time includes, and is the best of many batches.
+pub fn edit(count: NonZeroU32, image: &[u8], token_bytes: &[u8]) -> Result<String, String> {
+    let mut parsed = Parsed::of(image, token_bytes)?;
+    let tokens = tokens::read(token_bytes, parsed.grammar.t).expect("parse accepts the tokens");
+    let mut fields = Vec::new();
+    for (name, run, inserted) in book::edits(&tokens).ok_or("a book without hosts")? {
+        let change = Change {
+            place: run.start as u32,
+            removed: run.len() as u32,
+            token_bytes: &tokens::bytes(&inserted),
+        };
+        let time = parsed.edit_nanoseconds(count, image, change)?;
+        fields.push(format!("{name} {time}"));
+    }
+    let buffers = [
+        ("copy-tree", AREA_BYTES),
+        ("copy-tables", TABLE_BYTES),
+        ("copy-work", WORK_BYTES),
+    ];
+    for (name, length) in buffers {
+        fields.push(format!("{name} {}", copy_nanoseconds(count, length)));
+    }
+    Ok(fields.join(" "))
+}
+
 /// The tree of a sentence in 1,000 slots, and what the calls on it are lent.
 struct Parsed {
     grammar: Grammar,
@@ -99,6 +133,27 @@ impl Parsed {
             work,
         })
     }
+
+    /// The time of one edit in nanoseconds, or the refusal of it.
+    fn edit_nanoseconds(
+        &mut self,
+        count: NonZeroU32,
+        image: &[u8],
+        change: Change,
+    ) -> Result<u128, String> {
+        let mut area = self.area.clone();
+        let mut reply = Reply::ACCEPTED;
+        let time = best_nanoseconds(count, || {
+            area.copy_from_slice(&self.area);
+            let (area, work) = (black_box(&mut area), black_box(&mut self.work));
+            reply = edit::edit(image, &self.tables, area, black_box(change), work);
+        });
+        if reply.is_accepted() {
+            Ok(time)
+        } else {
+            Err(show::refused(reply))
+        }
+    }
 }
 
 /// The mean time of one copy of this many bytes in nanoseconds.
@@ -107,6 +162,13 @@ fn copy_nanoseconds(count: NonZeroU32, length: usize) -> u128 {
     nanoseconds(count, || {
         black_box(&mut target).copy_from_slice(black_box(&source));
     })
+}
+
+/// The least mean time of one call in nanoseconds among batches of calls.
+fn best_nanoseconds(count: NonZeroU32, mut call: impl FnMut()) -> u128 {
+    let batch = NonZeroU32::new(count.get() / BATCHES).unwrap_or(NonZeroU32::MIN);
+    let times = (0..BATCHES).map(|_| nanoseconds(batch, &mut call));
+    times.min().expect("there are batches")
 }
 
 /// The mean time of one call in nanoseconds.
@@ -141,7 +203,7 @@ mod tests {
     }
 
     #[test]
-    fn the_lines_of_parse_and_read_back_hold_all_times() {
+    fn the_lines_of_the_other_calls_hold_all_times() {
         let book = tokens::bytes(&book::tokens(93));
         let line = parse(NonZeroU32::MIN, &IMAGE, &book).expect("a book");
         assert_eq!(
@@ -153,6 +215,10 @@ mod tests {
             words(&line),
             ["read-back", "walk", "copy-tree", "copy-tokens"]
         );
+        let line = edit(NonZeroU32::MIN, &IMAGE, &book).expect("a book");
+        let edits = ["first-host", "middle-host", "last-host", "remove-rule"];
+        let copies = ["copy-tree", "copy-tables", "copy-work"];
+        assert_eq!(words(&line), [&edits[..], &copies].concat());
     }
 
     #[test]
@@ -161,6 +227,9 @@ mod tests {
         let refused = Err("refused 9 2".to_string());
         assert_eq!(parse(NonZeroU32::MIN, &IMAGE, &tokens), refused);
         assert_eq!(read_back(NonZeroU32::MIN, &IMAGE, &tokens), refused);
+        assert_eq!(edit(NonZeroU32::MIN, &IMAGE, &tokens), refused);
+        let no_book = Err("a book without hosts".to_string());
+        assert_eq!(edit(NonZeroU32::MIN, &IMAGE, &[]), no_book);
     }
 
     #[test]
@@ -169,5 +238,8 @@ mod tests {
         let count = NonZeroU32::new(7).expect("7 is not 0");
         nanoseconds(count, || calls += 1);
         assert_eq!(calls, 7);
+        let count = NonZeroU32::new(60).expect("60 is not 0");
+        best_nanoseconds(count, || calls += 1);
+        assert_eq!(calls, 67);
     }
 }

@@ -15,8 +15,10 @@ mod compare;
 mod damage;
 mod derivation;
 mod descent;
+mod edit;
 mod grammar;
 mod image;
+mod kept_slots;
 mod listing;
 mod listing_input;
 mod parse;
@@ -34,6 +36,7 @@ mod reference;
 mod reply;
 mod sets;
 mod show;
+mod starts;
 mod symbol_set;
 mod tables;
 mod token_damage;
@@ -75,7 +78,11 @@ const USAGE: &str = "usage:
                                      when all is checked, and of copying tree, tables and work
   second bench-read-back COUNT GRAMMAR TOKENS
                                      the same of read back, of the walk that tells a valid
-                                     tree alone, and of copying tree and tokens";
+                                     tree alone, and of copying tree and tokens
+  second bench-edit COUNT GRAMMAR TOKENS
+                                     the same of edits of a book in 1,000 slots, the best of
+                                     20 batches: another first, middle and last host, the
+                                     middle rule removed; and of copying tree, tables and work";
 
 /// Exit status for a command that could not be carried out.
 const NOT_RUN: u8 = 2;
@@ -140,6 +147,11 @@ fn run(words: &[&str]) -> Result<ExitCode, Box<dyn Error>> {
         ["bench-read-back", count, image, tokens] => {
             let (image, tokens) = (read_source(image)?, read_source(tokens)?);
             println!("{}", bench::read_back(count.parse()?, &image, &tokens)?);
+            Ok(ExitCode::SUCCESS)
+        }
+        ["bench-edit", count, image, tokens] => {
+            let (image, tokens) = (read_source(image)?, read_source(tokens)?);
+            println!("{}", bench::edit(count.parse()?, &image, &tokens)?);
             Ok(ExitCode::SUCCESS)
         }
         _ => Err(USAGE.into()),
