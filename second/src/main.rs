@@ -19,6 +19,9 @@ mod edit;
 mod grammar;
 mod image;
 mod kept_slots;
+mod lent;
+#[cfg(test)]
+mod limits;
 mod listing;
 mod listing_input;
 mod parse;

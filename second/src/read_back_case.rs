@@ -49,7 +49,8 @@ fn case(seed: u64, number: usize) -> Case {
     let random = &mut Random::of_case(seed, number as u64);
     let (kind, grammar, derivation) = some_tree(random);
     let mut kinds = vec![kind];
-    let mut area = in_any_slots(random, &derivation);
+    let slots = some_slots(random, derivation.nodes.len());
+    let mut area = choices::in_any_slots(random, &derivation, slots);
     let output_length = some_output_length(random, derivation.leaves());
     let mut image = image::records(&grammar).concat();
     if number % 3 != 0 {
@@ -111,25 +112,12 @@ fn derivation(grammar: &Grammar, tokens: &[Token]) -> Option<Derivation> {
     descent::parse(grammar, &tables::of(grammar), tokens, MAX_SLOTS).ok()
 }
 
-/// A tree in an area of any size, in the first slots or in any, in preorder
-/// or in any order.
-fn in_any_slots(random: &mut Random, derivation: &Derivation) -> Vec<u8> {
-    let nodes = derivation.nodes.len();
+/// As many slots as a tree has nodes, or more.
+fn some_slots(random: &mut Random, nodes: usize) -> usize {
     let few = nodes + random.below(10);
     let any = nodes + random.below(MAX_SLOTS - nodes + 1);
     let slots = random.one_of(&[nodes, few, few, any, MAX_SLOTS]);
-    let slots = slots.min(MAX_SLOTS);
-    let mut order: Vec<u16> = (1..=slots as u16).collect();
-    if !random.once_in(4) {
-        random.shuffle(&mut order);
-    }
-    if random.once_in(4) {
-        order.truncate(nodes);
-        order.sort();
-    }
-    let mut area = vec![0; area_bytes(slots)];
-    tree::write(derivation, &derivation.in_slots(order), &mut area);
-    area
+    slots.min(MAX_SLOTS)
 }
 
 /// Mostly enough for this many tokens, often just so.
