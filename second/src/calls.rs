@@ -32,6 +32,12 @@ pub trait Case: Send + 'static {
     /// The reply to the case and the right answer.
     fn expected(&self) -> (Reply, Answer);
 
+    /// A rule that holds of every answer and that this program's own answer
+    /// breaks.
+    fn broken_rule(&self, _: Reply, _: &Answer) -> Option<&'static str> {
+        None
+    }
+
     /// How the case came about, then all that is needed to run it again.
     fn text(&self) -> String;
 }
@@ -102,14 +108,20 @@ fn compare<C: Case>(
     for (number, case) in cases.into_iter().enumerate() {
         let (reply, expected) = case.expected();
         tally.replies[reply.number as usize] += 1;
-        match read_answer(case.before(), &mut answers) {
-            Ok(answer) if answer == expected => tally.passed += 1,
-            Ok(answer) => {
-                write_case(seed, number, &case, &expected, out)?;
-                write_difference::<C>(&expected, &answer, out)?;
-            }
+        let broken_rule = case.broken_rule(reply, &expected);
+        let answer = read_answer(case.before(), &mut answers);
+        let is_equal = answer.as_ref().is_ok_and(|answer| *answer == expected);
+        if is_equal && broken_rule.is_none() {
+            tally.passed += 1;
+            continue;
+        }
+        write_case(seed, number, &case, &expected, out)?;
+        if let Some(rule) = broken_rule {
+            writeln!(out, "the second program breaks the rule: {rule}")?;
+        }
+        match answer {
+            Ok(answer) => write_difference::<C>(&expected, &answer, out)?,
             Err(fault) => {
-                write_case(seed, number, &case, &expected, out)?;
                 writeln!(out, "the other program does not answer: {fault}")?;
                 break;
             }

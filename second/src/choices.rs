@@ -9,7 +9,7 @@ use crate::image;
 use crate::random::Random;
 use crate::random_grammar;
 use crate::random_ll1;
-use crate::reference::IMAGE;
+use crate::reference;
 use crate::reply::{Reply, REPLY_BYTES};
 use crate::tables::TABLE_BYTES;
 use crate::tokens::Token;
@@ -22,11 +22,23 @@ const REPLY_BOUND: usize = 41;
 /// The reference grammar or, mostly, any LL(1) grammar.
 pub fn ll1_grammar(random: &mut Random) -> (&'static str, Grammar) {
     if random.once_in(6) {
-        let reference = image::read(&IMAGE).expect("the reference image is good");
-        ("reference grammar", reference)
+        ("reference grammar", reference::grammar())
     } else {
         ("LL(1)", random_ll1::grammar(random))
     }
+}
+
+/// The image of another LL(1) grammar: any, or one with the same productions in
+/// another order.
+pub fn other_ll1_image(random: &mut Random, grammar: &Grammar) -> (&'static str, Vec<u8>) {
+    let (kind, other) = if random.once_in(2) {
+        ("foreign grammar", ll1_grammar(random).1)
+    } else {
+        let mut other = grammar.clone();
+        random.shuffle(&mut other.productions);
+        ("productions in another order", other)
+    };
+    (kind, image::records(&other).concat())
 }
 
 /// An image that most calls refuse: a damaged one, one that is nearly LL(1),

@@ -4,7 +4,7 @@ use crate::starts::{Starts, ROOT};
 
 /// The run of tokens that an edit replaces: where it begins, and how many
 /// tokens are removed and inserted there.
-#[derive(Clone, Copy, Debug, PartialEq)]
+#[derive(Clone, Copy)]
 pub struct Run {
     pub place: u16,
     pub removed: u16,
@@ -84,3 +84,6 @@ fn kept_nodes(old: &Starts, new: &Starts, run: Run) -> Vec<Option<u16>> {
     }
     kept
 }
+
+#[cfg(test)]
+mod tests;

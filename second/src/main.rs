@@ -16,14 +16,16 @@ mod damage;
 mod derivation;
 mod descent;
 mod edit;
+mod edit_case;
+mod edit_check;
 mod grammar;
 mod image;
 mod kept_slots;
 mod lent;
-#[cfg(test)]
 mod limits;
 mod listing;
 mod listing_input;
+mod other_sentence;
 mod parse;
 mod parse_case;
 mod per_symbol;
@@ -31,6 +33,7 @@ mod prepare;
 mod prepare_case;
 mod random;
 mod random_grammar;
+mod random_lists;
 mod random_ll1;
 mod random_sentence;
 mod read_back;
@@ -39,6 +42,7 @@ mod reference;
 mod reply;
 mod sets;
 mod show;
+mod splice;
 mod starts;
 mod symbol_set;
 mod tables;
@@ -72,7 +76,8 @@ const USAGE: &str = "usage:
                                      takes on standard input and answers on standard output
   second parses SEED COUNT PROGRAM [ARGUMENT ..]
   second reads SEED COUNT PROGRAM [ARGUMENT ..]
-                                     the same with parse and with read back
+  second edits SEED COUNT PROGRAM [ARGUMENT ..]
+                                     the same with parse, with read back and with edit
   second book RULES                  the token bytes of a book with RULES rules
   second bench-prepare COUNT FILE|-  nanoseconds of prepare and of copying the tables, each
                                      the mean of COUNT calls
@@ -132,6 +137,9 @@ fn run(words: &[&str]) -> Result<ExitCode, Box<dyn Error>> {
         }
         ["reads", seed, count, ref command @ ..] => {
             compare_calls(read_back_case::cases, seed, count, command)
+        }
+        ["edits", seed, count, ref command @ ..] => {
+            compare_calls(edit_case::cases, seed, count, command)
         }
         ["bench-prepare", count, source] => {
             println!("{}", bench::prepare(count.parse()?, &read_source(source)?));

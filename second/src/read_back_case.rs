@@ -11,7 +11,7 @@ use crate::image;
 use crate::random::Random;
 use crate::random_sentence;
 use crate::read_back::read_back;
-use crate::reference::IMAGE;
+use crate::reference::{self, IMAGE};
 use crate::reply::{Reply, REPLY_BYTES};
 use crate::show;
 use crate::tables;
@@ -57,7 +57,10 @@ fn case(seed: u64, number: usize) -> Case {
         kinds.push(area_damage::changed(random, &grammar, &mut area));
     }
     if random.once_in(4) {
-        let (kind, other) = other_image(random, &grammar);
+        let (kind, other) = match random.below(5) {
+            0 | 1 => choices::other_ll1_image(random, &grammar),
+            _ => choices::bad_image(random, &grammar),
+        };
         image = other;
         kinds.push(kind);
     }
@@ -79,7 +82,7 @@ fn example(number: usize) -> Option<Case> {
         ("V", &[1, 2, 5, 1, 2, 5]),
     ];
     let (kind, kinds) = *examples.get(number)?;
-    let grammar = image::read(&IMAGE).expect("the reference image is good");
+    let grammar = reference::grammar();
     let tokens = tokens::numbered(kinds.iter().copied());
     let derivation = derivation(&grammar, &tokens)?;
     let mut area = vec![0; area_bytes(MAX_SLOTS)];
@@ -130,21 +133,6 @@ fn some_output_length(random: &mut Random, tokens: usize) -> usize {
     } else {
         random.one_of(&[needed, needed, needed + 1, more])
     }
-}
-
-/// A bad image, or the image of an LL(1) grammar for which the tree is a
-/// foreign one: any, or one with the same productions in another order.
-fn other_image(random: &mut Random, grammar: &Grammar) -> (&'static str, Vec<u8>) {
-    let (kind, other) = match random.below(5) {
-        0 => ("foreign grammar", choices::ll1_grammar(random).1),
-        1 => {
-            let mut other = grammar.clone();
-            random.shuffle(&mut other.productions);
-            ("productions in another order", other)
-        }
-        _ => return choices::bad_image(random, grammar),
-    };
-    (kind, image::records(&other).concat())
 }
 
 impl calls::Case for Case {

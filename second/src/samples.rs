@@ -2,8 +2,9 @@
 
 use crate::grammar::Grammar;
 use crate::image;
-use crate::reference::IMAGE;
 use crate::tokens::{self, Token};
+
+pub use crate::reference::grammar as reference;
 
 /// A grammar from its parts.
 pub fn grammar(t: u8, n: u8, start: u8, productions: &[(u8, &[u8])]) -> Grammar {
@@ -22,11 +23,6 @@ pub fn grammar(t: u8, n: u8, start: u8, productions: &[(u8, &[u8])]) -> Grammar 
 /// The image of a grammar from its parts.
 pub fn image(t: u8, n: u8, start: u8, productions: &[(u8, &[u8])]) -> Vec<u8> {
     image::records(&grammar(t, n, start, productions)).concat()
-}
-
-/// The reference grammar.
-pub fn reference() -> Grammar {
-    image::read(&IMAGE).expect("the reference image is good")
 }
 
 /// Tokens of these kinds, no two with the same tag.

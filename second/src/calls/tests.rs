@@ -80,6 +80,48 @@ fn a_different_sign_is_written_with_what_it_says() {
     assert!(text.ends_with(end), "{text}");
 }
 
+/// A case of which this program's own answer breaks a rule.
+struct Broken(prepare_case::Case);
+
+impl Case for Broken {
+    const REPLIES: &'static [usize] = prepare_case::Case::REPLIES;
+    const WRITTEN: &'static str = prepare_case::Case::WRITTEN;
+    const SIGNS: &'static [&'static str] = prepare_case::Case::SIGNS;
+
+    fn bytes(&self) -> Vec<u8> {
+        self.0.bytes()
+    }
+
+    fn before(&self) -> Answer {
+        self.0.before()
+    }
+
+    fn expected(&self) -> (Reply, Answer) {
+        self.0.expected()
+    }
+
+    fn broken_rule(&self, reply: Reply, _: &Answer) -> Option<&'static str> {
+        reply.is_accepted().then_some("all is refused")
+    }
+
+    fn text(&self) -> String {
+        self.0.text()
+    }
+}
+
+#[test]
+fn a_broken_rule_fails_even_if_the_answers_are_equal() {
+    let answers = right_answers(4).concat();
+    let cases = cases(4).into_iter().map(Broken);
+    let mut out = Vec::new();
+    let tally = compare(SEED, cases, &answers[..], &mut out).expect("nothing to fail");
+    assert_eq!(tally.passed, 3);
+    let text = String::from_utf8(out).expect("the report is text");
+    assert!(text.starts_with("seed 7 case 0: reference\n"));
+    assert!(text.contains("\nthe second program breaks the rule: all is refused\n"));
+    assert!(text.ends_with("\ntables: the same\n"));
+}
+
 #[test]
 fn tables_that_a_refusal_leaves_differ_from_written_ones() {
     let mut answers = right_answers(1);
