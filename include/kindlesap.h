@@ -50,18 +50,20 @@ extern "C" {
  *   2   a nonterminal derives no terminal string (the empty one counts), or
  *       no string derived from the start symbol holds it                        lowest such symbol
  *   3   the grammar is not LL(1)                                                lowest nonterminal in conflict
- *   4   the tables are of another length; in parse also not what prepare
- *       writes                                                                  0
- *   5   the tree area's length is wrong; in read back also no valid tree        0
+ *   4   the tables are of another length; in parse and edit also not what
+ *       prepare writes                                                          0
+ *   5   the tree area's length is wrong; in edit and read back also no valid
+ *       tree                                                                    0
  *   6   the work area is shorter than three times the tree area                 length needed
  *   7   the token bytes end inside a record, or a kind is not 1..t              first bad record, from 0
+ *   8   place plus removed exceeds the old token count                          that count
  *   9   syntax, as told at parse                                                token
  *  10   no room, as told at parse                                               0
  *  11   the output is shorter than 5 bytes a token                              bytes needed
  *
  * They are tried in this order, each call taking those that concern it; between 9 and 10 the plain parse decides. Only reply 9 has an
- * expected set. Total is the number of nodes in the stored tree; parse has total and made, read back has total. Fields not named
- * are 0.
+ * expected set. Total is the number of nodes in the stored tree; parse has total and made, edit has all four, read back has total. Fields
+ * not named are 0.
  */
 #define KINDLESAP_REPLY_SIZE 32
 
@@ -73,6 +75,7 @@ extern "C" {
 #define KINDLESAP_WRONG_TREE 5
 #define KINDLESAP_SHORT_WORK 6
 #define KINDLESAP_BAD_TOKEN 7
+#define KINDLESAP_OUT_OF_RANGE 8
 #define KINDLESAP_SYNTAX 9
 #define KINDLESAP_NO_ROOM 10
 #define KINDLESAP_SHORT_OUTPUT 11
@@ -103,6 +106,20 @@ void kindlesap_prepare(const uint8_t *grammar, size_t grammar_len, uint8_t *tabl
  */
 void kindlesap_parse(const uint8_t *grammar, size_t grammar_len, const uint8_t *tables, size_t tables_len, const uint8_t *tokens, size_t tokens_len,
                      uint8_t *tree, size_t tree_len, uint8_t *work, size_t work_len, uint8_t *reply, size_t reply_len);
+
+/*
+ * Edits a valid tree: `removed` tokens from `place` on (the first token is 0) go, and the new tokens come there. Replies 1, 2, 3, 4, 5, 6, 7,
+ * 8, and 9 or 10 by the plain parse of the whole new sentence into the area's slots.
+ *
+ * Tokens before the place, and those after the removed run, are kept tokens; a new token equal to a removed one is still new. A node with
+ * tokens keeps its slot exactly when its first token is kept and both trees have a node of that symbol starting with it. A node without
+ * tokens keeps its slot exactly when its parent does and the new tree's node at the same place below that parent has no tokens either; a
+ * root without tokens, exactly when the new root has none. All others are given up. New nodes, in preorder, take the lowest-numbered slots
+ * that no kept node holds. The work area becomes zero whichever the reply and whatever its length.
+ */
+void kindlesap_edit(const uint8_t *grammar, size_t grammar_len, const uint8_t *tables, size_t tables_len, uint8_t *tree, size_t tree_len,
+                    uint32_t place, uint32_t removed, const uint8_t *tokens, size_t tokens_len, uint8_t *work, size_t work_len, uint8_t *reply,
+                    size_t reply_len);
 
 /*
  * Reads the tokens of a valid tree back into the output: 5 bytes a token and nothing beyond. Replies 1, 2, 3, 5, 11.
