@@ -66,7 +66,7 @@ pub record EditCalled (image tables tree : List ℕ) (place removed : ℕ) (toke
 -- ---- no second outcome
 
 -- an area has one number of tokens
-tokens-one : {G : Grammar} {S S' : ℕ} {b : List ℕ} (u : Valid G S b) (v : Valid G S' b) → length (yield (u .tree)) ≡ length (yield (v .tree))
+pub tokens-one : {G : Grammar} {S S' : ℕ} {b : List ℕ} (u : Valid G S b) (v : Valid G S' b) → length (yield (u .tree)) ≡ length (yield (v .tree))
 tokens-one u v = ap (λ (f : Forest). length (yield f)) (trees-one u v)
 
 -- the plain parse accepts the sentence of the new tree
@@ -74,17 +74,20 @@ pub altered-parses : {G : Grammar} {S : ℕ} {e : Edit} {old new : Forest} {kept
 altered-parses {G} {S} {e} {old} {new} l h =
     accepted-exactly S (edited e (yield old)) (size new) l .1 (record { tree = record { tree = new; derives = h .derives; yields = h .yields }; nodes = refl; fits = h .fits })
 
-module _ {G : Grammar} (g : Prepared G) (place removed : ℕ) {S S' t : ℕ} {tree tokens : List ℕ} {w w' : List Token} (v : Valid G S tree) (v' : Valid G S' tree) (s : Sentence t tokens w)
-    (s' : Sentence t tokens w') where
-  -- the new sentence has one verdict
-  pub verdict-one : {u u' : Verdict} → Parses G S (edited (editOf place removed w) (yield (v .tree))) u → Parses G S' (edited (editOf place removed w') (yield (v' .tree))) u' → u ≡ u'
-  verdict-one h k = runs-one g h (rw (← slots-one v v', ← trees-one v v', ← sentence-one s s') at k)
+module _ {G : Grammar} (place removed : ℕ) {S S' t : ℕ} {tree tokens : List ℕ} {w w' : List Token} (v : Valid G S tree) (v' : Valid G S' tree) (s : Sentence t tokens w) (s' : Sentence t tokens w') where
+  -- there is one new sentence, for one number of slots
+  pub same-parse : {u : Verdict} → Parses G S' (edited (editOf place removed w') (yield (v' .tree))) u → Parses G S (edited (editOf place removed w) (yield (v .tree))) u
+  same-parse h = rw (← slots-one v v', ← trees-one v v', ← sentence-one s s') at h
+
+  -- with one verdict
+  verdict-one : {u u' : Verdict} → Prepared G → Parses G S (edited (editOf place removed w) (yield (v .tree))) u → Parses G S' (edited (editOf place removed w') (yield (v' .tree))) u' → u ≡ u'
+  verdict-one g h k = runs-one g h (same-parse k)
 
   -- and one new tree
-  altered-ones : {new new' : Forest} {kept made up kept' made' up' : ℕ} {b b' : List ℕ} → Altered G S (editOf place removed w) (v .tree) new kept made up
+  altered-ones : {new new' : Forest} {kept made up kept' made' up' : ℕ} {b b' : List ℕ} → Prepared G → Altered G S (editOf place removed w) (v .tree) new kept made up
       → Altered G S' (editOf place removed w') (v' .tree) new' kept' made' up' → Area S new b → Area S' new' b'
       → (Accepted (editCounts (size new) kept made up) ≡ Accepted (editCounts (size new') kept' made' up')) × (b ≡ b')
-  altered-ones {new} {new'} {b = b} {b' = b'} h k a a' =
+  altered-ones {new} {new'} {b = b} {b' = b'} g h k a a' =
       let q = altered-one g (v .derives) h (rw (← slots-one v v', ← trees-one v v', ← sentence-one s s') at k) in
       let c : Area S new' b' = rw (← slots-one v v') at a' in
       (rw (q .0, q .1, q .2, q .3), area-one S new' b b' (subst (λ (f : Forest). Area S f b) (q .0) a) c)
@@ -140,28 +143,28 @@ module _ {G : Grammar} (g : Prepared G) where
       go (wrong-syntax t v l s i p) (bad-token t' v' l' b') = absurd (bad-not-sentence b' s)
       go (wrong-syntax t v l s i p) (beyond t' v' l' s' i') = absurd (omega (arith, i, i', tokens-one v v'))
       go (wrong-syntax {i = x} {e = y} t v l s i p) (wrong-syntax {i = x'} {e = y'} t' v' l' s' i' p') =
-          let z = verdict-one g place removed v v' s s' p p' in
+          let z = verdict-one place removed v v' s s' g p p' in
           let q : x ≡ x' = cc in
           let o : y ≡ y' = cc in
           (rw (q, o), refl)
-      go (wrong-syntax t v l s i p) (no-room t' v' l' s' i' p') = let z = verdict-one g place removed v v' s s' p p' in never (cc)
-      go (wrong-syntax t v l s i p) (altered f' t' v' l' s' i' p' a') = let z = verdict-one g place removed v v' s s' p (altered-parses (v' .some) p') in never (cc)
+      go (wrong-syntax t v l s i p) (no-room t' v' l' s' i' p') = let z = verdict-one place removed v v' s s' g p p' in never (cc)
+      go (wrong-syntax t v l s i p) (altered f' t' v' l' s' i' p' a') = let z = verdict-one place removed v v' s s' g p (altered-parses (v' .some) p') in never (cc)
       go (no-room t v l s i p) (wrong-tables n') = absurd (n' t)
       go (no-room {S = S} t v l s i p) (no-tree t' n') = absurd (n' S v)
       go (no-room t v l s i p) (short-work t' v' l') = absurd (omega (arith, l, l'))
       go (no-room t v l s i p) (bad-token t' v' l' b') = absurd (bad-not-sentence b' s)
       go (no-room t v l s i p) (beyond t' v' l' s' i') = absurd (omega (arith, i, i', tokens-one v v'))
-      go (no-room t v l s i p) (wrong-syntax t' v' l' s' i' p') = let z = verdict-one g place removed v v' s s' p p' in never (cc)
+      go (no-room t v l s i p) (wrong-syntax t' v' l' s' i' p') = let z = verdict-one place removed v v' s s' g p p' in never (cc)
       go (no-room t v l s i p) (no-room t' v' l' s' i' p') = (refl, refl)
-      go (no-room t v l s i p) (altered f' t' v' l' s' i' p' a') = let z = verdict-one g place removed v v' s s' p (altered-parses (v' .some) p') in never (cc)
+      go (no-room t v l s i p) (altered f' t' v' l' s' i' p' a') = let z = verdict-one place removed v v' s s' g p (altered-parses (v' .some) p') in never (cc)
       go (altered f t v l s i p a) (wrong-tables n') = absurd (n' t)
       go (altered {S = S} f t v l s i p a) (no-tree t' n') = absurd (n' S v)
       go (altered f t v l s i p a) (short-work t' v' l') = absurd (omega (arith, l, l'))
       go (altered f t v l s i p a) (bad-token t' v' l' b') = absurd (bad-not-sentence b' s)
       go (altered f t v l s i p a) (beyond t' v' l' s' i') = absurd (omega (arith, i, i', tokens-one v v'))
-      go (altered f t v l s i p a) (wrong-syntax t' v' l' s' i' p') = let z = verdict-one g place removed v v' s s' (altered-parses (v .some) p) p' in never (cc)
-      go (altered f t v l s i p a) (no-room t' v' l' s' i' p') = let z = verdict-one g place removed v v' s s' (altered-parses (v .some) p) p' in never (cc)
-      go (altered f t v l s i p a) (altered f' t' v' l' s' i' p' a') = altered-ones g place removed v v' s s' p p' a a'
+      go (altered f t v l s i p a) (wrong-syntax t' v' l' s' i' p') = let z = verdict-one place removed v v' s s' g (altered-parses (v .some) p) p' in never (cc)
+      go (altered f t v l s i p a) (no-room t' v' l' s' i' p') = let z = verdict-one place removed v v' s s' g (altered-parses (v .some) p) p' in never (cc)
+      go (altered f t v l s i p a) (altered f' t' v' l' s' i' p' a') = altered-ones place removed v v' s s' g p p' a a'
 
 pub edit-one : {image tables tree tokens work tree' tree'' work' work'' : List ℕ} {place removed : ℕ} {r r' : Reply} → EditOutcome image tables tree place removed tokens work r tree' work'
     → EditOutcome image tables tree place removed tokens work r' tree'' work'' → (r ≡ r') × (tree' ≡ tree'') × (work' ≡ work'')

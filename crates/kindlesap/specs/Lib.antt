@@ -10,4 +10,5 @@ pub mod Storing
 pub mod Returning
 -- Across calls.
 pub mod Across
+pub mod Edited
 pub mod RoundTrip

@@ -77,7 +77,7 @@ pub record ParseCalled (image tables tokens tree work b tree' work' b' : List �
 
 -- ---- no second outcome
 
-sized-one : {S S' : ℕ} {b : List ℕ} → Sized S b → Sized S' b → S ≡ S'
+pub sized-one : {S S' : ℕ} {b : List ℕ} → Sized S b → Sized S' b → S ≡ S'
 sized-one h k = let e = h .long in let f = k .long in omega arith
 
 module _ {G : Grammar} (g : Prepared G) where
