@@ -1,8 +1,65 @@
 // An edit of a valid tree by good tokens: the new sentence is formed and parsed, its nodes get their slots, and the area is laid out.
+ghost use mathlib.Core.Path.{_≡_};
+ghost use Prim.Native.Nat.{_+_, _*_, _<_, _≤_};
+ghost use lib.ListN.{length};
+ghost use Rattle.grammar.specs.Rows.{grammarIn};
+ghost use Rattle.trees.specs.Area.{maxSlots, areaSize};
+ghost use Rattle.trees.specs.Coded.{nodeSize};
+ghost use Rattle.altering.specs.Altering.{Doubled, SettledAll};
+
+// Room for both lists of nodes, for one of them, and for a mark or a number for each slot and one more.
+const LISTS_SIZE: usize = 2 * trees::MAX_SLOTS;
+
+const LIST_SIZE: usize = trees::MAX_SLOTS;
+
+const MARKS_SIZE: usize = trees::MAX_SLOTS + 1;
 
 // The new tree has so many nodes, of which so many kept their slots; or the plain parse refuses the new sentence.
 pub enum Alteration {
     Altered(usize, usize),
     Syntax(usize, u32),
     NoRoom,
+}
+
+// Gives the k nodes of the new tree, which stand in the work area behind the slots' room for the o nodes of the old one, their slots, and lays them out; how many are kept.
+fn settle(
+    rows: &[u8],
+    t: usize,
+    n: usize,
+    start: usize,
+    count: usize,
+    slots: usize,
+    o: usize,
+    k: usize,
+    place: usize,
+    removed: usize,
+    inserted: usize,
+    work: &mut [u8],
+    tree: &mut [u8],
+) -> usize
+    requires { ⌜ Doubled (grammarIn (now rows) t n start count) slots place removed inserted (now tree) (now work) o k × (slots ≤ maxSlots) × (length (now tree) ≡ areaSize slots) × (nodeSize * (slots + k) ≤ length (now work)) ⌝ }
+    ensures { λ r. ⌜ SettledAll (grammarIn (now (rows .entry)) t n start count) slots place removed inserted (now (tree .entry)) (now (work .entry)) o k r (now (tree .exit)) × (r ≤ k) × (r ≤ o) ⌝ }
+{
+    let mut ends = [0u16; LISTS_SIZE];
+    let mut widths = [0u16; LISTS_SIZE];
+    let mut starts = [0u16; MARKS_SIZE];
+    let mut matches = [0u16; LIST_SIZE];
+    let mut marks = [0u8; MARKS_SIZE];
+    matching::match_nodes(
+        work,
+        o,
+        slots,
+        k,
+        rows,
+        place,
+        removed,
+        inserted,
+        &mut ends,
+        &mut widths,
+        &mut starts,
+        &mut matches,
+    );
+    let kept = keeping::give_slots(work, slots, k, slots, &matches, &mut marks);
+    trees::lay_out(&work[trees::NODE_SIZE * slots..], k, rows, slots, tree);
+    kept
 }
