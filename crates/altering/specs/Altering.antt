@@ -25,6 +25,10 @@ use Rattle.altering.specs.Treed.{treed-fits}
 use Rattle.altering.specs.Settling.{Both, both-old, both-new, both-one, both-some, both-numbers, both-fit, both-old-nodes, both-spread, both-fed, both-few, both-alters}
 use Rattle.altering.specs.Parts.{nodes-drop}
 
+-- where an area's header has the number of tokens
+abbrev pub tokensPlace : ℕ
+tokensPlace = 6
+
 -- both trees stand in the buffers, for an edit of these numbers
 pub record Doubled (G : Grammar) (S place removed inserted : ℕ) (tree w : List ℕ) (o k : ℕ) : Type 0 where
   pub edit : Edit

@@ -6,3 +6,4 @@ pub mod Settling
 pub mod Parts
 -- The ways through the code.
 pub mod Altering
+pub mod Course

@@ -1,4 +1,3 @@
-
 use Rattle.altering.specs.Altering.{blank-zeros, first-zero, small, lists-old, lists-new, one-root, slots-fit, slots-old, laid-spread, laid-fed, settled-all, settled-few}
 use Rattle.base.specs.Blocks.{zeros}
 use mathlib.Core.Path.{refl}
