@@ -1,28 +1,27 @@
 -- The course of an edit: the new sentence is formed and parsed behind the old nodes, and the answer is what the meaning says.
-use Prim.Native.Nat.{ℕ, zero, suc, _+_, _-_, _*_, _≤_, _<_}
+use Prim.Native.Nat.{ℕ, suc, _+_, _-_, _*_, _≤_, _<_}
 use mathlib.Core.Path.{_≡_, refl, sym, ap, _∙_}
-use mathlib.Core.List.{List, [], _∷_, _++_, append-nil}
-use lib.ListN.{length, getD, take, drop, length-append, length-take, length-drop, drop-of-length-le, List·getD-append}
+use mathlib.Core.List.{List, [], _++_, append-nil}
+use lib.ListN.{length, take, drop, length-take, length-drop, drop-of-length-le, List·getD-append}
 use lib.Seq.{drop-at, getD-take}
 use native.Mathlib.Omega.{arith}
 use Rattle.base.specs.Bytes.{byteAt, get16}
 use Rattle.grammar.specs.Grammar.{Grammar}
 use Rattle.grammar.specs.Prediction.{Prepared}
-use Rattle.grammar.specs.Forest.{Token, Forest, yield}
+use Rattle.grammar.specs.Forest.{yield}
 use Rattle.grammar.specs.Rows.{grammarIn}
 use Rattle.tables.specs.Tables.{Tables}
-use Rattle.trees.specs.Area.{maxSlots, areaSize, Valid}
+use Rattle.trees.specs.Area.{maxSlots}
 use Rattle.trees.specs.Nodes.{leavesOf}
 use Rattle.trees.specs.Coded.{nodeSize, nodesFrom}
 use Rattle.trees.specs.Listing.{nodes-kept}
 use Rattle.walks.specs.Reading.{valid-one, valid-header}
-use Rattle.plain.specs.Plain.{accepted, syntax, noRoom, Parses}
 use Rattle.plain.specs.Exactly.{accepted-exactly}
-use Rattle.plain.specs.Tokens.{tokenSize, Sentence, tokensFrom, length-tokens}
+use Rattle.plain.specs.Tokens.{Sentence, tokensFrom, length-tokens}
 use Rattle.plain.specs.Machine.{Ground, Done}
-use Rattle.plain.specs.Outcome.{Ran, is-done, is-wrong, is-full}
+use Rattle.plain.specs.Outcome.{Ran, is-wrong, is-full}
 use Rattle.plain.specs.declared.Parsed.{Parsed}
-use Rattle.edits.specs.Keeping.{Edit, edited}
+use Rattle.edits.specs.Keeping.{Edit}
 use Rattle.matching.specs.Finding.{Numbers}
 use Rattle.sentences.specs.Forming.{editOf, NewSentence}
 use Rattle.sentences.specs.Grounding.{partOf, ground-of, parses-of, whole-of}

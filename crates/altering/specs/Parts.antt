@@ -1,8 +1,8 @@
 -- Nodes in a part of a buffer: those from node `base` on.
-use Prim.Native.Nat.{ℕ, zero, suc, _+_, _-_, _*_, _≤_, _<_}
-use mathlib.Core.Path.{_≡_, refl, sym, ap, _∙_}
-use mathlib.Core.List.{List, [], _∷_, _++_}
-use lib.ListN.{length, take, drop}
+use Prim.Native.Nat.{ℕ, zero, suc, _+_, _-_, _*_}
+use mathlib.Core.Path.{_≡_, refl, ap, _∙_}
+use mathlib.Core.List.{List, _∷_}
+use lib.ListN.{drop}
 use lib.Seq.{getD-drop}
 use native.Mathlib.Omega.{arith}
 use Rattle.base.specs.Bytes.{byteAt, get16, get32}

@@ -1,17 +1,16 @@
 -- The new tree's nodes get their slots: what the old list and the new one are, which slots are held, and what is laid out.
-use Prim.Native.Nat.{ℕ, zero, suc, _+_, _-_, _*_, _≤_, _<_}
+use Prim.Native.Nat.{ℕ, zero, suc, _+_, _-_, _≤_, _<_}
 use mathlib.Core.Path.{_≡_, refl, sym, ap, _∙_, subst}
 use mathlib.Core.Logic.{_⊎_, inl, inr}
 use mathlib.Core.List.{List, [], _∷_, _++_, List·Memᴰ}
-use lib.ListN.{length, getD, take, drop, length-append}
+use lib.ListN.{length, take, drop, length-append}
 use native.Mathlib.Omega.{arith}
-use Rattle.base.specs.Choose.{never}
 use Rattle.grammar.specs.Grammar.{Grammar}
 use Rattle.grammar.specs.Prediction.{Prepared}
 use Rattle.grammar.specs.Forest.{Token, Forest, size, yield, Derives}
 use Rattle.grammar.specs.Rows.{grammarIn}
-use Rattle.trees.specs.Area.{top, slots, Area, Valid}
-use Rattle.trees.specs.Nodes.{Node as Entry, leafNode, innerNode, preorder, leavesOf, leaves-yield, trees, Lists, lists-forest, forest-lists, build, Formed, build-preorder, derives-formed, Fed, fed-preorder}
+use Rattle.trees.specs.Area.{top, slots, Area}
+use Rattle.trees.specs.Nodes.{Node as Entry, leafNode, innerNode, leavesOf, leaves-yield, trees, Lists, lists-forest, forest-lists, build, Formed, build-preorder, derives-formed, Fed, fed-preorder}
 use Rattle.trees.specs.Coded.{nodeAt, nodesFrom, length-nodes, arityIn}
 use Rattle.trees.specs.Listing.{inSlot}
 use Rattle.trees.specs.Members.{member}
@@ -19,9 +18,9 @@ use Rattle.trees.specs.Spread.{slotsOf, slots-build, Spread}
 use Rattle.plain.specs.Traced.{Same}
 use Rattle.plain.specs.Alike.{same-back}
 use Rattle.walks.specs.Reading.{valid-one}
-use Rattle.edits.specs.Keeping.{Edit, edited, Node, Keeps, Holds, Holding, Given, keptOf, madeOf, GivenUp, Altered}
+use Rattle.edits.specs.Keeping.{Edit, edited, Holds, Holding, GivenUp, Altered}
 use Rattle.edits.specs.One.{keeps-one}
-use Rattle.edits.specs.Giving.{Held, holding-held, kept-made}
+use Rattle.edits.specs.Giving.{holding-held, kept-made}
 use Rattle.edits.specs.Counts.{kept-given-up}
 use Rattle.edits.specs.Uniqueness.{keeps-same}
 use Rattle.matching.specs.Measure.{treeIn, Built, built-size, stands, few-tokens}

@@ -1,4 +1,3 @@
-use native.Mathlib.Omega.{arith}
 use Rattle.altering.specs.Treed.{treed-sized, treed-long, treed-room}
 use Rattle.altering.specs.Outcome.{Few}
 use Rattle.altering.specs.Course.{course-ground, course-syntax, course-room, course-fits, course-doubled, course-settled, few-altered}
@@ -6,11 +5,6 @@ use Rattle.plain.specs.Outcome.{is-done}
 use borrow.Author.Needs.{needs}
 use Rattle.altering.proofs.alter.Statement.{statement}
 use Rattle.altering.proofs.alter.Tie as tie
-use Rattle.altering.proofs.alter.Reads as reads
-use Rattle.altering.proofs.alter.Lts as lts
-use Rattle.altering.proofs.settle.Reads as settle-reads
-use Rattle.plain.proofs.parse.Reads as parse-reads
-use Rattle.sentences.proofs.new_sentence.Reads as new-sentence-reads
 
 add-new-sentence : tie.Need-add-new-sentence
 add-new-sentence c = search needs

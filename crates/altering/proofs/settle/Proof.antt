@@ -1,15 +1,9 @@
 use Rattle.altering.specs.Altering.{blank-zeros, first-zero, small, lists-old, lists-new, one-root, slots-fit, slots-old, laid-spread, laid-fed, settled-all, settled-few}
 use Rattle.base.specs.Blocks.{zeros}
 use mathlib.Core.Path.{refl}
-use native.Mathlib.Omega.{arith}
 use borrow.Author.Needs.{needs}
 use Rattle.altering.proofs.settle.Statement.{statement}
 use Rattle.altering.proofs.settle.Tie as tie
-use Rattle.altering.proofs.settle.Reads as reads
-use Rattle.altering.proofs.settle.Lts as lts
-use Rattle.keeping.proofs.give_slots.Reads as give-slots-reads
-use Rattle.matching.proofs.match_nodes.Reads as match-nodes-reads
-use Rattle.trees.proofs.lay_out.Reads as lay-out-reads
 
 slice-aggregate-match-nodes : tie.Need-slice-aggregate-match-nodes
 slice-aggregate-match-nodes c = search needs
