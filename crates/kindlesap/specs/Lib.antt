@@ -3,10 +3,13 @@ pub mod Judged
 pub mod Prepare
 pub mod Parse
 pub mod ReadBack
+pub mod Edit
 -- The laws that the proofs of the calls cite.
 pub mod Judging
 pub mod Storing
 pub mod Returning
+pub mod Editing
 -- Across calls.
 pub mod Across
+pub mod Edited
 pub mod RoundTrip

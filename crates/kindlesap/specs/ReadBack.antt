@@ -7,8 +7,8 @@ use native.Mathlib.Omega.{arith}
 use Rattle.base.specs.Blocks.{copied}
 use Rattle.grammar.specs.Grammar.{Grammar}
 use Rattle.grammar.specs.Prediction.{Prepared}
-use Rattle.grammar.specs.Forest.{Token, Forest, size, yield}
-use Rattle.trees.specs.Area.{areaSize, Area, Valid}
+use Rattle.grammar.specs.Forest.{Forest, size, yield}
+use Rattle.trees.specs.Area.{Area, Valid}
 use Rattle.walks.specs.Reading.{valid-one}
 use Rattle.plain.specs.Tokens.{tokenSize, tokenBytes}
 use Rattle.replies.specs.Reply.{replyBytes}
@@ -46,12 +46,12 @@ pub record ReadCalled (image tree output b output' b' : List ℕ) : Type 0 where
 -- ---- no second outcome
 
 -- an area has one tree, in one number of slots
-trees-one : {G : Grammar} {S S' : ℕ} {b : List ℕ} (u : Valid G S b) (v : Valid G S' b) → u .tree ≡ v .tree
+pub slots-one : {G : Grammar} {S S' : ℕ} {b : List ℕ} → Valid G S b → Valid G S' b → S ≡ S'
+slots-one u v = let p = u .area .long in let q = v .area .long in omega arith
+
+pub trees-one : {G : Grammar} {S S' : ℕ} {b : List ℕ} (u : Valid G S b) (v : Valid G S' b) → u .tree ≡ v .tree
 trees-one {G} {S} {S'} {b} u v =
-    let p = u .area .long in
-    let q = v .area .long in
-    let e : S' ≡ S = omega arith in
-    valid-one u (record { some = u .some; few = u .few; tree = v .tree; derives = v .derives; area = subst (λ (x : ℕ). Area x (v .tree) b) e (v .area) })
+    valid-one u (record { some = u .some; few = u .few; tree = v .tree; derives = v .derives; area = subst (λ (x : ℕ). Area x (v .tree) b) (slots-one v u) (v .area) })
 
 returns-one : {tree output : List ℕ} (G : Grammar) → Prepared G → One (Returns tree output G)
 returns-one {tree} {output} G g r r' v v' h k = go h k

@@ -11,7 +11,7 @@ use Rattle.base.specs.Blocks.{copied, zeros, copied-zeros}
 use Rattle.replies.specs.declared.Counts.{Counts}
 use Rattle.replies.specs.declared.Reason.{Reason}
 use Rattle.replies.specs.declared.Reply.{Reply}
-use Rattle.replies.specs.declared.Reason.the-variants.{BadGrammar, UselessSymbol, NotLl1, WrongTables, WrongTree, ShortWork, BadToken, Syntax, NoRoom, ShortOutput}
+use Rattle.replies.specs.declared.Reason.the-variants.{BadGrammar, UselessSymbol, NotLl1, WrongTables, WrongTree, ShortWork, BadToken, BeyondTokens, Syntax, NoRoom, ShortOutput}
 use Rattle.replies.specs.declared.Reply.the-variants.{Accepted, Refused}
 
 -- "Fields not named [..] are 0"
@@ -28,6 +28,7 @@ numberOf (Refused WrongTables) = 4
 numberOf (Refused WrongTree) = 5
 numberOf (Refused (ShortWork k)) = 6
 numberOf (Refused (BadToken k)) = 7
+numberOf (Refused (BeyondTokens k)) = 8
 numberOf (Refused (Syntax k e)) = 9
 numberOf (Refused NoRoom) = 10
 numberOf (Refused (ShortOutput k)) = 11
@@ -42,6 +43,7 @@ placeOf (Refused WrongTables) = 0
 placeOf (Refused WrongTree) = 0
 placeOf (Refused (ShortWork k)) = k
 placeOf (Refused (BadToken k)) = k
+placeOf (Refused (BeyondTokens k)) = k
 placeOf (Refused (Syntax k e)) = k
 placeOf (Refused NoRoom) = 0
 placeOf (Refused (ShortOutput k)) = k
@@ -56,6 +58,7 @@ expectedOf (Refused WrongTables) = 0
 expectedOf (Refused WrongTree) = 0
 expectedOf (Refused (ShortWork k)) = 0
 expectedOf (Refused (BadToken k)) = 0
+expectedOf (Refused (BeyondTokens k)) = 0
 expectedOf (Refused (Syntax k e)) = e
 expectedOf (Refused NoRoom) = 0
 expectedOf (Refused (ShortOutput k)) = 0

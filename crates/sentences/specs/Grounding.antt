@@ -27,32 +27,32 @@ use Rattle.sentences.specs.Forming.{editOf, NewSentence}
 -- ---- good tokens
 
 -- a token of kind 1..t with a 32-bit tag
-abbrev Good : ℕ → Token → Type 0
+abbrev pub Good : ℕ → Token → Type 0
 Good t k = TerminalOf t (k .kind) × Tagged k
 
-good-of : {t : ℕ} (w : List Token) → Each (TerminalOf t) (kinds w) → Each Tagged w → Each (Good t) w
+pub good-of : {t : ℕ} (w : List Token) → Each (TerminalOf t) (kinds w) → Each Tagged w → Each (Good t) w
 good-of [] a b = Each.nil
 good-of (k ∷ w) (Each.cons x a) (Each.cons y b) = Each.cons (x, y) (good-of w a b)
 
-good-kinds : {t : ℕ} (w : List Token) → Each (Good t) w → Each (TerminalOf t) (kinds w)
+pub good-kinds : {t : ℕ} (w : List Token) → Each (Good t) w → Each (TerminalOf t) (kinds w)
 good-kinds [] a = Each.nil
 good-kinds (k ∷ w) (Each.cons x a) = Each.cons (x .0) (good-kinds w a)
 
-good-tags : {t : ℕ} (w : List Token) → Each (Good t) w → Each Tagged w
+pub good-tags : {t : ℕ} (w : List Token) → Each (Good t) w → Each Tagged w
 good-tags [] a = Each.nil
 good-tags (k ∷ w) (Each.cons x a) = Each.cons (x .1) (good-tags w a)
 
-each-take : {P : Token → Type 0} (k : ℕ) (w : List Token) → Each P w → Each P (take k w)
+pub each-take : {P : Token → Type 0} (k : ℕ) (w : List Token) → Each P w → Each P (take k w)
 each-take {P} k w e = each-parts {P = P} (take k w) {ys = drop k w} (rw (take-append-drop k w) e) .0
 
-each-drop : {P : Token → Type 0} (k : ℕ) (w : List Token) → Each P w → Each P (drop k w)
+pub each-drop : {P : Token → Type 0} (k : ℕ) (w : List Token) → Each P w → Each P (drop k w)
 each-drop {P} k w e = each-parts {P = P} (take k w) {ys = drop k w} (rw (take-append-drop k w) e) .1
 
 good-edited : {t : ℕ} (place removed limit : ℕ) (w ins : List Token) → Each (Good t) w → Each (Good t) ins → Each (Good t) (take limit (edited (editOf place removed ins) w))
 good-edited place removed limit w ins e f =
     each-take limit (edited (editOf place removed ins) w) (each-join (each-take place w e) (each-join f (each-drop (place + removed) w e)))
 
-good-linked : {b : List ℕ} {p : ℕ} {f : Forest} → Linked b p f → Each Tagged (yield f)
+pub good-linked : {b : List ℕ} {p : ℕ} {f : Forest} → Linked b p f → Each Tagged (yield f)
 good-linked Linked.nil = Each.nil
 good-linked (Linked.leaf e l h) = Each.cons l (good-linked h)
 good-linked (Linked.node e h k) = each-join (good-linked h) (good-linked k)
