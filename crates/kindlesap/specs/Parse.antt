@@ -79,7 +79,7 @@ sized-one h k = let e = h .long in let f = k .long in omega arith
 
 module _ {G : Grammar} (g : Prepared G) where
   -- a sentence is stored in one way only
-  stored-one : {S : ℕ} {w : List Token} {f f' : Forest} → Stored G S w f → Stored G S w f' → f ≡ f'
+  pub stored-one : {S : ℕ} {w : List Token} {f f' : Forest} → Stored G S w f → Stored G S w f' → f ≡ f'
   stored-one {w = w} {f = f} {f' = f'} h k =
       let T : Tree G (G .start) w = record { tree = f; derives = h .derives; yields = h .yields } in
       let U : Tree G (G .start) w = record { tree = f'; derives = k .derives; yields = k .yields } in

@@ -15,15 +15,21 @@ use Rattle.grammar.specs.Rows.{symbolSpace}
 use Rattle.grammar.specs.Reference.{reference}
 use Rattle.predictions.specs.Hits.{hasb}
 use Rattle.tables.specs.Tables.{rowSymbol, Prediction}
-use Rattle.tables.specs.Cells.{next, stemBits, sharedFrom, pointOf}
+use Rattle.tables.specs.Cells.{next, stemBits, sharedFrom, behindOf, pointOf}
 use Rattle.tables.specs.Points.{point}
 use Rattle.plain.specs.Plain.{Verdict, accepted, syntax, noRoom, Parses}
 use Rattle.plain.specs.Machine.{marked}
+use Rattle.replies.specs.declared.Reason.{Reason}
+use Rattle.replies.specs.declared.Reason.the-variants.{BeyondTokens, Syntax}
+use Rattle.replies.specs.declared.Reply.the-variants.{Refused}
 use Rattle.kindlesap.specs.Parse.{Stored}
 use Rattle.worked.specs.Words.{words}
-use Rattle.worked.specs.Ready.{cells, steps}
+use Rattle.worked.specs.Ready.{below, cells, steps}
 use Rattle.worked.specs.Entries.{cell, cell-is, entry, entry-is}
 use Rattle.worked.specs.Run.{body, lit, leaf, grown, inner, turn, run, run-right}
+use Rattle.worked.specs.Match.{orElse, seek, starts, stands, was, full, void, source, matches, slotOf, slotsOf, held}
+use Rattle.worked.specs.Alter.{grows, among, filled, gives, givenUp}
+use Rattle.worked.specs.Edits.{Cell, kept, made, Row, Setting, Replies, Remade, spelled, noded, planted, facts, edit-says, syntax-says, beyond-says}
 
 -- ---- what an example says
 
@@ -58,14 +64,91 @@ pub data Example : Type 0 where
   tree : (S : ℕ) (w : List Token) (f : Forest) → Example
   -- C to F. how a sentence of these kinds, whatever its tags, ends in S slots
   parse : (S : ℕ) (ks : List ℕ) (v : Verdict) → Example
+  -- G to K. an edit of the tree that parse leaves of a sentence, whatever the tags of the sentence and of the new tokens, is accepted
+  edit : (r : Row) → Example
+  -- or it is refused, and the tree untouched; there are S slots, ks the kinds of the sentence, and `new` those of the new tokens
+  refusal : (S : ℕ) (ks : List ℕ) (place removed : ℕ) (new : List ℕ) (reason : Reason) → Example
 
 abbrev pub Says : Example → Type 0
 Says (counts p b e) = Counted p b e
 Says (breakPoint M N a v) = Break reference M N a v
 Says (tree S w f) = Stored reference S w f
 Says (parse S ks v) = (w : List Token) → kinds w ≡ ks → Parses reference S w v
+Says (edit r) = (x : Setting (r .S) (r .sentence) (r .inserted)) → Remade r x
+Says (refusal S ks place removed new reason) = (x : Setting S ks new) → Replies x place removed (Refused reason) (x .tree)
 
 -- ---- the table
+
+-- "U = kinds 1 2 5, and V = 1 2 5 1 2 5"
+abbrev pub kindsU : List ℕ
+kindsU = 1 ∷ 2 ∷ 5 ∷ []
+
+abbrev pub kindsV : List ℕ
+kindsV = 1 ∷ 2 ∷ 5 ∷ 1 ∷ 2 ∷ 5 ∷ []
+
+-- G. "U's tree, at 2 remove 0, insert `4 2`": "New Bar in slot 7; the other four in 10 to 13"
+abbrev pub exampleG : Row
+exampleG =
+    record {
+      S = 1000;
+      sentence = kindsU;
+      place = 2;
+      removed = 0;
+      inserted = 4 ∷ 2 ∷ [];
+      total = 13;
+      kept = 8;
+      made = 5;
+      up = 1;
+      nodes = kept 1 6 1 ∷ kept 2 7 3 ∷ kept 3 1 0 ∷ kept 4 8 4 ∷ kept 5 2 0 ∷ kept 6 9 6 ∷ made 7 10 7 ∷ made 10 4 0 ∷ made 11 8 4 ∷ made 12 2 0 ∷ made 13 9 6 ∷ kept 8 5 0 ∷ kept 9 6 2 ∷ [];
+    }
+
+-- H. "V, at 0 remove 3": "root slot 9"
+abbrev pub exampleH : Row
+exampleH =
+    record {
+      S = 1000;
+      sentence = kindsV;
+      place = 0;
+      removed = 3;
+      inserted = [];
+      total = 9;
+      kept = 9;
+      made = 0;
+      up = 8;
+      nodes = kept 9 6 1 ∷ kept 10 7 3 ∷ kept 11 1 0 ∷ kept 12 8 4 ∷ kept 13 2 0 ∷ kept 14 9 6 ∷ kept 15 10 8 ∷ kept 16 5 0 ∷ kept 17 6 2 ∷ [];
+    }
+
+-- I. "V, at 2 remove 2, insert `3`": "New: Rest in 6, comma in 8, last Book in 9"
+abbrev pub exampleI : Row
+exampleI =
+    record {
+      S = 1000;
+      sentence = kindsV;
+      place = 2;
+      removed = 2;
+      inserted = 3 ∷ [];
+      total = 13;
+      kept = 10;
+      made = 3;
+      up = 7;
+      nodes = kept 1 6 1 ∷ kept 2 7 3 ∷ kept 3 1 0 ∷ kept 4 8 4 ∷ kept 5 2 0 ∷ made 6 9 5 ∷ made 8 3 0 ∷ kept 12 8 4 ∷ kept 13 2 0 ∷ kept 14 9 6 ∷ kept 7 10 8 ∷ kept 16 5 0 ∷ made 9 6 2 ∷ [];
+    }
+
+-- K. "U: at 3 remove 0 is in range"
+abbrev pub exampleK : Row
+exampleK =
+    record {
+      S = 1000;
+      sentence = kindsU;
+      place = 3;
+      removed = 0;
+      inserted = [];
+      total = 9;
+      kept = 9;
+      made = 0;
+      up = 0;
+      nodes = kept 1 6 1 ∷ kept 2 7 3 ∷ kept 3 1 0 ∷ kept 4 8 4 ∷ kept 5 2 0 ∷ kept 6 9 6 ∷ kept 7 10 8 ∷ kept 8 5 0 ∷ kept 9 6 2 ∷ [];
+    }
 
 pub examples : List Example
 examples =
@@ -80,7 +163,14 @@ examples =
     parse 8 (1 ∷ 2 ∷ 5 ∷ []) noRoom ∷
     parse 9 (1 ∷ 2 ∷ []) (syntax 2 56) ∷
     parse 8 (1 ∷ 2 ∷ []) noRoom ∷
-    parse 1000 (1 ∷ 2 ∷ 4 ∷ 2 ∷ 4 ∷ []) (syntax 4 32) ∷ []
+    parse 1000 (1 ∷ 2 ∷ 4 ∷ 2 ∷ 4 ∷ []) (syntax 4 32) ∷
+    parse 1000 kindsV (accepted 17) ∷
+    edit exampleG ∷
+    edit exampleH ∷
+    edit exampleI ∷
+    refusal 1000 kindsV 2 2 [] (Syntax 2 56) ∷
+    edit exampleK ∷
+    refusal 1000 kindsU 3 1 [] (BeyondTokens 3) ∷ []
 
 -- ---- the values, computed
 
@@ -89,15 +179,15 @@ unfolding sum used cell cells zeros choose
 nine = refl
 
 twentyfive : sum 5 (λ R. sum 5 (λ Q. sum columns (λ a. used (entry (6 + R) (6 + Q) a)))) ≡ 25
-unfolding sum used entry pointOf stemBits sharedFrom next hasb words steps zeros choose
+unfolding sum used entry pointOf behindOf stemBits sharedFrom next hasb words steps zeros choose
 twentyfive = refl
 
 seventeen : sum 5 (λ R. sum 5 (λ Q. sum columns (λ a. error (entry (6 + R) (6 + Q) a)))) ≡ 17
-unfolding sum error entry pointOf stemBits sharedFrom next hasb words steps zeros choose
+unfolding sum error entry pointOf behindOf stemBits sharedFrom next hasb words steps zeros choose
 seventeen = refl
 
 at-9-10-4 : entry 9 10 4 ≡ 10
-unfolding entry pointOf stemBits sharedFrom next hasb words steps zeros choose
+unfolding entry pointOf behindOf stemBits sharedFrom next hasb words steps zeros choose
 at-9-10-4 = refl
 
 at-7-6-1 : entry 7 6 1 ≡ 7
@@ -105,7 +195,7 @@ unfolding entry pointOf stemBits sharedFrom next hasb words steps zeros choose
 at-7-6-1 = refl
 
 at-8-9-3 : entry 8 9 3 ≡ 255
-unfolding entry pointOf stemBits sharedFrom next hasb words steps zeros choose
+unfolding entry pointOf behindOf stemBits sharedFrom next hasb words steps zeros choose
 at-8-9-3 = refl
 
 at-8-10-2 : entry 8 10 2 ≡ 0
@@ -135,9 +225,22 @@ pub parse-says : (fuel S : ℕ) (ks : List ℕ) (v : Verdict) → run fuel S (6 
 unfolding reference
 parse-says fuel S ks v e w q = run-right fuel S (6 ∷ []) w 1 0 v (rw q e)
 
+-- the trees that parse leaves of U and V
+abbrev pub treeU : List Cell
+treeU = made 1 6 1 ∷ made 2 7 3 ∷ made 3 1 0 ∷ made 4 8 4 ∷ made 5 2 0 ∷ made 6 9 6 ∷ made 7 10 8 ∷ made 8 5 0 ∷ made 9 6 2 ∷ []
+
+abbrev pub treeV : List Cell
+treeV =
+    made 1 6 1 ∷ made 2 7 3 ∷ made 3 1 0 ∷ made 4 8 4 ∷ made 5 2 0 ∷ made 6 9 6 ∷ made 7 10 8 ∷ made 8 5 0 ∷ made 9 6 1 ∷ made 10 7 3 ∷ made 11 1 0 ∷ made 12 8 4 ∷ made 13 2 0 ∷ made 14 9 6 ∷
+    made 15 10 8 ∷ made 16 5 0 ∷ made 17 6 2 ∷ []
+
+pub exampleH-holds : Says (edit exampleH)
+unfolding body choose reference spelled noded planted facts held matches source full void was seek orElse starts stands slotOf slotsOf grows among filled gives givenUp below
+exampleH-holds = edit-says exampleH treeV (λ w u. refl)
+
 -- every example holds
 pub examples-hold : Each Says examples
-unfolding examples run turn leaf inner grown body lit marked cell cells zeros choose reference
+unfolding examples run turn leaf inner grown body lit marked cell cells zeros choose reference spelled noded planted facts held matches source full void was seek orElse starts stands slotOf slotsOf grows among filled gives givenUp below
 examples-hold =
     Each.cons counted
     (Each.cons (point-says 9 10 4 10 (omega arith) (omega arith) (omega arith) at-9-10-4)
@@ -150,4 +253,11 @@ examples-hold =
     (Each.cons (parse-says 20 _ _ _ refl)
     (Each.cons (parse-says 20 _ _ _ refl)
     (Each.cons (parse-says 20 _ _ _ refl)
-    (Each.cons (parse-says 20 _ _ _ refl) Each.nil)))))))))))
+    (Each.cons (parse-says 20 _ _ _ refl)
+    (Each.cons (parse-says 40 _ _ _ refl)
+    (Each.cons (edit-says exampleG treeU (λ w u. refl))
+    (Each.cons exampleH-holds
+    (Each.cons (edit-says exampleI treeV (λ w u. refl))
+    (Each.cons (syntax-says 20 1000 2 2 _ _ kindsV [] (omega arith) refl)
+    (Each.cons (edit-says exampleK treeU (λ w u. refl))
+    (Each.cons (beyond-says 1000 3 1 kindsU [] (omega arith)) Each.nil))))))))))))))))))

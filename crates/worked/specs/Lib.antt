@@ -4,6 +4,10 @@ pub mod Ready
 pub mod Entries
 -- A parse that can be run.
 pub mod Run
+-- Which slots an edit keeps, computed.
+pub mod Match
+pub mod Alter
+pub mod Edits
 -- The table of examples, and poor programs that the contract rules out.
 pub mod Examples
 pub mod Poor

@@ -1,6 +1,6 @@
--- Poor programs that the contracts of prepare and parse rule out: one that refuses everything, and one that has one reply for all.
-use Prim.Native.Nat.{ℕ, _*_, _≤_}
-use mathlib.Core.Path.{_≡_, refl, ap, _∙_, subst}
+-- Poor programs that the contracts of prepare, parse and edit rule out: one that refuses everything, one that has one reply for all, and edits that touch nothing, reparse, or keep too much.
+use Prim.Native.Nat.{ℕ, zero, suc, _*_, _≤_}
+use mathlib.Core.Path.{_≡_, refl, ap, sym, _∙_, subst}
 use mathlib.Core.List.{List, [], _∷_}
 use lib.ListN.{length, getD}
 use native.Mathlib.Omega.{arith}
@@ -10,27 +10,36 @@ use Rattle.base.specs.Blocks.{zeros, byte-zeros, length-zeros}
 use Rattle.grammar.specs.Each.{Each}
 use Rattle.grammar.specs.Grammar.{Grammar, TerminalOf}
 use Rattle.grammar.specs.Prediction.{Prepared}
-use Rattle.grammar.specs.Forest.{Token}
-use Rattle.grammar.specs.Image.{bad-head}
+use Rattle.grammar.specs.Forest.{Token, Forest, yield}
+use Rattle.grammar.specs.Image.{Image, bad-head}
 use Rattle.grammar.specs.Images.{image-one, good-not-bad, bad-one}
 use Rattle.grammar.specs.Reference.{reference, referenceImage, reference-image}
 use Rattle.tables.specs.Tables.{tablesSize, Tables}
-use Rattle.trees.specs.Area.{areaSize}
+use Rattle.trees.specs.Area.{areaSize, top, Area, Valid}
+use Rattle.trees.specs.Nodes.{preorder}
 use Rattle.plain.specs.Plain.{Verdict, accepted, syntax, noRoom, Parses}
-use Rattle.plain.specs.Tokens.{Tagged, Sentence, bad-not-sentence}
+use Rattle.plain.specs.Tokens.{Tagged, Sentence, sentence-one, bad-not-sentence}
 use Rattle.plain.specs.Machine.{marked}
-use Rattle.replies.specs.Reply.{noCounts}
+use Rattle.edits.specs.Keeping.{edited}
+use Rattle.sentences.specs.Forming.{editOf}
+use Rattle.replies.specs.Reply.{noCounts, countsOf}
+use Rattle.replies.specs.declared.Counts.{Counts}
 use Rattle.replies.specs.declared.Reply.{Reply}
 use Rattle.replies.specs.declared.Reason.{Reason}
 use Rattle.replies.specs.declared.Reason.the-variants.{BadGrammar, Syntax, NoRoom}
 use Rattle.replies.specs.declared.Reply.the-variants.{Accepted, Refused}
 use Rattle.kindlesap.specs.Judged.{Judged, useless, conflict, fit, Opened, bad-image, good-image}
 use Rattle.kindlesap.specs.Prepare.{Writes, wrong-size, written, Prepares}
-use Rattle.kindlesap.specs.Parse.{workAreas, Sized, parseCounts, Fits, wrong-tables, wrong-area, short-work, bad-token, wrong-syntax, no-room, stored, ParseOutcome, stored-parses, verdict-one}
-use Rattle.worked.specs.Ready.{reference-prepared, cells}
+use Rattle.kindlesap.specs.Parse.{workAreas, Sized, parseCounts, Stored, Fits, wrong-tables, wrong-area, short-work, bad-token, wrong-syntax, no-room, stored, ParseOutcome, stored-parses, verdict-one}
+use Rattle.kindlesap.specs.ReadBack.{trees-one}
+use Rattle.kindlesap.specs.Edit as calls
+use Rattle.worked.specs.Ready.{below, reference-prepared, cells}
 use Rattle.worked.specs.Entries.{cell, referenceTables, reference-tables}
 use Rattle.worked.specs.Run.{body, lit, leaf, grown, inner, turn, run}
-use Rattle.worked.specs.Examples.{parse-says}
+use Rattle.worked.specs.Match.{orElse, seek, starts, stands, was, full, void, source, matches, slotOf, slotsOf, held}
+use Rattle.worked.specs.Alter.{grows, among, filled, gives, givenUp}
+use Rattle.worked.specs.Edits.{Cell, kept, made, cellsOf, Row, Setting, Remade, spelled, noded, planted, facts, edit-says, only, syntax-says}
+use Rattle.worked.specs.Examples.{kindsU, kindsV, treeU, exampleH, exampleH-holds, parse-says}
 
 -- the reference image passes replies 1 to 3
 opened-reference : {Q : Grammar → Reply → List ℕ → Type 0} {w w' : List ℕ} {r : Reply} → Opened referenceImage Q w r w' → Q reference r w'
@@ -138,3 +147,129 @@ parse-not-one-reply r f =
 -- no program leaves a byte of work that is not 0, whatever it replies
 pub parse-clears : {image tables tokens tree work tree' work' : List ℕ} {r : Reply} → ParseOutcome image tables tokens tree work r tree' work' → (i : ℕ) → getD work' i 0 ≡ 0
 parse-clears {work = work} h i = ap (λ (u : List ℕ). getD u i 0) (h .cleared) ∙ byte-zeros (length work) i
+
+-- ---- edit
+
+-- the slot of the first node
+abbrev slotIn : Cell → ℕ
+slotIn (kept s x p) = s
+slotIn (made s x p) = s
+
+root-slot : (hs : List ℕ) (f : Forest) (c : Cell) (cs : List Cell) → cellsOf hs (preorder f) ≡ c ∷ cs → top f ≡ slotIn c
+root-slot [] f c cs e = never (cc)
+root-slot (zero ∷ hs) Forest.nil c cs e = never (cc)
+root-slot (suc h ∷ hs) Forest.nil c cs e = never (cc)
+root-slot (zero ∷ hs) (Forest.leaf s a g r) c cs e = let q : made s a 0 ≡ c = cc in ap slotIn q
+root-slot (suc h ∷ hs) (Forest.leaf s a g r) c cs e = let q : kept s a 0 ≡ c = cc in ap slotIn q
+root-slot (zero ∷ hs) (Forest.node s M p k r) c cs e = let q : made s M p ≡ c = cc in ap slotIn q
+root-slot (suc h ∷ hs) (Forest.node s M p k r) c cs e = let q : kept s M p ≡ c = cc in ap slotIn q
+
+-- parse puts the root in slot 1
+stored-root : {S : ℕ} {w : List Token} (f : Forest) → Stored reference S w f → top f ≡ 9 → ⊥
+stored-root Forest.nil h e = omega arith
+stored-root (Forest.leaf s a g r) h e = let q = h .order in let z : s ≡ 1 = cc in omega arith
+stored-root (Forest.node s M p k r) h e = let q = h .order in let z : s ≡ 1 = cc in omega arith
+
+-- example H: of V, at 0 remove 3
+module _ (x : Setting 1000 kindsV []) {q : Reply} {tree' work' : List ℕ} (h : calls.EditOutcome referenceImage referenceTables (x .tree) 0 3 (x .tokens) (x .work) q tree' work') where
+  comes : (q ≡ Accepted (calls.editCounts 9 9 0 8)) × Area 1000 (exampleH-holds x .tree) tree'
+  comes = only (exampleH-holds x) (opened-reference (h .opened))
+
+  -- the tree that it leaves has its root in slot 9
+  root-nine : (v : Valid reference 1000 tree') → top (v .tree) ≡ 9
+  root-nine v =
+      let m : Remade exampleH x = exampleH-holds x in
+      let u : Valid reference 1000 tree' = record { some = v .some; few = v .few; tree = m .tree; derives = m .altered .derives; area = comes .1 } in
+      ap top (trees-one v u) ∙ root-slot (m .altered .held) (m .tree) _ _ (m .nodes)
+
+  -- no program refuses everything
+  pub edit-not-refused : (y : Reason) → q ≡ Refused y → ⊥
+  edit-not-refused y e = let z = comes .0 in never (cc)
+
+  -- no program touches nothing
+  pub edit-not-untouched : tree' ≡ x .tree → ⊥
+  edit-not-untouched e =
+      stored-root (x .old) (x .stored) (root-nine (record { some = x .some; few = x .few; tree = x .old; derives = x .stored .derives; area = rw e (x .area) }))
+
+  -- no program stores the tree that parse does
+  pub edit-not-reparsed : (f : Forest) (w : List Token) → Stored reference 1000 w f → Area 1000 f tree' → ⊥
+  edit-not-reparsed f w s a = stored-root f s (root-nine (record { some = x .some; few = x .few; tree = f; derives = s .derives; area = a }))
+
+  -- no program has one reply for all, not even for all edits of one tree: example J is of the same
+  pub edit-not-one-reply : (tree'' work'' : List ℕ) → calls.EditOutcome referenceImage referenceTables (x .tree) 2 2 (x .tokens) (x .work) q tree'' work'' → ⊥
+  unfolding run turn leaf inner grown body lit marked cell cells zeros choose reference
+  edit-not-one-reply tree'' work'' k =
+      let z = comes .0 in
+      let y = calls.edit-one k (syntax-says 20 1000 2 2 2 56 kindsV [] (omega arith) refl x) .0 in
+      never (cc)
+
+-- U, at 1 remove 1, insert `2`: the new token is equal to the removed one, "still new". List and host, which start with it, and Rest, whose parent List is, are made
+abbrev pub equalToken : Row
+equalToken =
+    record {
+      S = 1000;
+      sentence = kindsU;
+      place = 1;
+      removed = 1;
+      inserted = 2 ∷ [];
+      total = 9;
+      kept = 6;
+      made = 3;
+      up = 3;
+      nodes = kept 1 6 1 ∷ kept 2 7 3 ∷ kept 3 1 0 ∷ made 4 8 4 ∷ made 5 2 0 ∷ made 6 9 6 ∷ kept 7 10 8 ∷ kept 8 5 0 ∷ kept 9 6 2 ∷ [];
+    }
+
+equal-token : (x : Setting 1000 kindsU (2 ∷ [])) → Remade equalToken x
+unfolding body choose reference spelled noded planted facts held matches source full void was seek orElse starts stands slotOf slotsOf grows among filled gives givenUp below
+equal-token = edit-says equalToken treeU (λ w u. refl)
+
+module _ (x : Setting 1000 kindsU (2 ∷ [])) {q : Reply} {tree' work' : List ℕ} (h : calls.EditOutcome referenceImage referenceTables (x .tree) 1 1 (x .tokens) (x .work) q tree' work') where
+  pub equal-token-counts : q ≡ Accepted (calls.editCounts 9 6 3 3)
+  equal-token-counts = only (equal-token x) (opened-reference (h .opened)) .0
+
+  -- no program keeps a node whose first token is new, though equal to a removed one
+  pub edit-not-equal-kept : q ≡ Accepted (calls.editCounts 9 9 0 0) → ⊥
+  edit-not-equal-kept e = absurd (omega (arith, ap (λ (r : Reply). countsOf r .kept) (sym equal-token-counts ∙ e)))
+
+  -- nor a node without tokens whose parent is not kept
+  pub edit-not-void-kept : q ≡ Accepted (calls.editCounts 9 7 2 2) → ⊥
+  edit-not-void-kept e = absurd (omega (arith, ap (λ (r : Reply). countsOf r .kept) (sym equal-token-counts ∙ e)))
+
+-- of any grammar and any valid tree: what an accepted edit leaves is a tree of the new sentence
+module _ {image tables tree tokens : List ℕ} {place removed S : ℕ} {G : Grammar} {w : List Token} (i : Image image G) (v : Valid G S tree) (s : Sentence (G .t) tokens w) (c : Counts) where
+  new-tree : {r : Reply} {tree' : List ℕ} {S' room : ℕ} → calls.Edits tables tokens place removed room tree G r tree' → r ≡ Accepted c → (v' : Valid G S' tree')
+      → yield (v' .tree) ≡ edited (editOf place removed w) (yield (v .tree))
+  new-tree (calls.wrong-tables n) e v' = never (cc)
+  new-tree (calls.no-tree t n) e v' = never (cc)
+  new-tree (calls.short-work t u l) e v' = never (cc)
+  new-tree (calls.bad-token t u l b) e v' = never (cc)
+  new-tree (calls.beyond t u l z j) e v' = never (cc)
+  new-tree (calls.wrong-syntax t u l z j p) e v' = never (cc)
+  new-tree (calls.no-room t u l z j p) e v' = never (cc)
+  new-tree (calls.altered {w = w'} new t u l z j p a) e v' =
+      let q = trees-one v' (record { some = u .some; few = u .few; tree = new; derives = p .derives; area = a }) in
+      ap yield q ∙ p .yields ∙ ap (λ (k : List Token). edited (editOf place removed k) (yield (u .tree))) (sentence-one z s) ∙ ap (λ (f : Forest). edited (editOf place removed w) (yield f)) (trees-one u v)
+
+  new-judged : {r : Reply} {tree' : List ℕ} {S' room : ℕ} → Judged G (calls.Edits tables tokens place removed room tree G) tree r tree' → r ≡ Accepted c → (v' : Valid G S' tree')
+      → yield (v' .tree) ≡ edited (editOf place removed w) (yield (v .tree))
+  new-judged (useless h) e v' = never (cc)
+  new-judged (conflict n h) e v' = never (cc)
+  new-judged (fit p h) e v' = new-tree h e v'
+
+  new-opened : {r : Reply} {tree' : List ℕ} {S' room : ℕ} → Opened image (calls.Edits tables tokens place removed room tree) tree r tree' → r ≡ Accepted c → (v' : Valid G S' tree')
+      → yield (v' .tree) ≡ edited (editOf place removed w) (yield (v .tree))
+  new-opened (bad-image b) e v' = never (cc)
+  new-opened {r} {tree'} {room = room} (good-image {G = H} k h) e v' =
+      new-judged (subst (λ (K : Grammar). Judged K (calls.Edits tables tokens place removed room tree K) tree r tree') (image-one k i) h) e v'
+
+  pub edit-new-sentence : {work tree' work' : List ℕ} {S' : ℕ} → calls.EditOutcome image tables tree place removed tokens work (Accepted c) tree' work' → (v' : Valid G S' tree')
+      → yield (v' .tree) ≡ edited (editOf place removed w) (yield (v .tree))
+  edit-new-sentence h v' = new-opened (h .opened) refl v'
+
+  -- so no program only claims success, on whichever call: where the tree is left as it was, the sentence was not to change
+  pub edit-not-claimed : {work work' : List ℕ} → calls.EditOutcome image tables tree place removed tokens work (Accepted c) tree work' → yield (v .tree) ≡ edited (editOf place removed w) (yield (v .tree))
+  edit-not-claimed h = edit-new-sentence h v
+
+-- no program leaves a byte of work that is not 0, whatever it replies
+pub edit-clears : {image tables tree tokens work tree' work' : List ℕ} {place removed : ℕ} {r : Reply} → calls.EditOutcome image tables tree place removed tokens work r tree' work' → (i : ℕ) → getD work' i 0 ≡ 0
+edit-clears {work = work} h i = ap (λ (u : List ℕ). getD u i 0) (h .cleared) ∙ byte-zeros (length work) i

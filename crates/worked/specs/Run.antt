@@ -29,7 +29,7 @@ use Rattle.worked.specs.Entries.{cell, cell-is}
 -- ---- the model
 
 -- the body of a production, and of production p
-abbrev bodyOf : Option Production → List ℕ
+abbrev pub bodyOf : Option Production → List ℕ
 bodyOf none = []
 bodyOf (some P) = P .body
 
