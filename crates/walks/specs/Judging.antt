@@ -27,6 +27,17 @@ pub record Suits (b : List ℕ) (s par x : ℕ) : Type 0 where
   pub symbol : symbolIn b s ≡ x
   pub parent : parentIn b s ≡ par
 
+-- its symbol and its production as a two-byte number
+both-in : (b : List ℕ) (s v : ℕ) → v ≡ get16 b (slotSize * s + 2) → Known b → (v % 256 ≡ symbolIn b s) × (v / 256 ≡ productionIn b s)
+both-in b s v e k =
+    let q : slotSize * s + 2 + 1 ≡ slotSize * s + 3 = omega arith in
+    let o = ap (byteAt b) q in
+    let c = k .small (slotSize * s + 2) in
+    (omega (arith, e, c), omega (arith, e, o, c))
+
+pub suits-low : {b : List ℕ} {s par x : ℕ} → Known b → Suits b s par x → x < 256
+suits-low {s = s} k h = omega (arith, h .symbol, k .small (slotSize * s + 2))
+
 -- as the code finds it
 module _ (b : List ℕ) (s par x : ℕ) where
   pub suits-mark : (v : ℕ) → v ≡ get16 b (slotSize * s) → (v ≡ 0x444E → ⊥) → Tells (Suits b s par x) false
@@ -38,14 +49,14 @@ module _ (b : List ℕ) (s par x : ℕ) where
       let o = ap (byteAt b) q in
       tells-no (λ h. let f = fields b s (h .used .is) in n (omega (arith, e, o, f .spare, f .spare')))
 
-  pub suits-symbol : (v : ℕ) → v ≡ symbolIn b s → (v ≡ x → ⊥) → Tells (Suits b s par x) false
-  suits-symbol v e n = tells-no (λ h. n (e ∙ h .symbol))
+  pub suits-symbol : (v : ℕ) → Known b → v ≡ get16 b (slotSize * s + 2) → (v % 256 ≡ x → ⊥) → Tells (Suits b s par x) false
+  suits-symbol v k e n = tells-no (λ h. n (both-in b s v e k .0 ∙ h .symbol))
 
   pub suits-parent : (v : ℕ) → v ≡ parentIn b s → (v ≡ par → ⊥) → Tells (Suits b s par x) false
   suits-parent v e n = tells-no (λ h. n (e ∙ h .parent))
 
   pub suits-yes : (u v y z : ℕ) → Known b → slotSize * s + slotSize ≤ length b → u ≡ get16 b (slotSize * s) → u ≡ 0x444E → v ≡ get16 b (slotSize * s + 14) → v ≡ 0
-      → y ≡ symbolIn b s → y ≡ x → z ≡ parentIn b s → z ≡ par → Tells (Suits b s par x) true
+      → y ≡ get16 b (slotSize * s + 2) → y % 256 ≡ x → z ≡ parentIn b s → z ≡ par → Tells (Suits b s par x) true
   suits-yes u v y z k l eu u' ev v' ey y' ez z' =
       let q : slotSize * s + 14 + 1 ≡ slotSize * s + 15 = omega arith in
       let o = ap (byteAt b) q in
@@ -53,11 +64,11 @@ module _ (b : List ℕ) (s par x : ℕ) where
       let c1 = k .small (slotSize * s + 1) in
       tells-yes (record {
         used = slot-used b s k l (omega (arith, eu, u', c0, c1)) (omega (arith, eu, u', c0, c1)) (omega (arith, ev, v', o)) (omega (arith, ev, v', o));
-        symbol = sym ey ∙ y';
+        symbol = sym (both-in b s y ey k .0) ∙ y';
         parent = sym ez ∙ z';
       })
 
-pub ruleset suiting = (suits-mark, suits-spare, suits-symbol, suits-parent)
+pub ruleset suiting = (suits-mark, suits-spare, suits-parent)
 
 -- ---- the children
 
@@ -115,12 +126,12 @@ module _ (rows : List ℕ) (t count : ℕ) (b : List ℕ) (s par x : ℕ) (w : L
   pub visited-unlike : (u : Bool) → Tells (Suits b s par x) u → u ≡ false → Visited rows t count b s par x w i w Unfit
   visited-unlike u h e = Visited.unfit refl (λ f. absurd (h .no e f))
 
-  module _ (y p g : ℕ) (ey : y ≡ symbolIn b s) (ep : p ≡ productionIn b s) (eg : g ≡ tagIn b s) (r : Kids) (k : Kin rows t count y p g r) where
-    same : Suits b s par x → Kin rows t count x (productionIn b s) (tagIn b s) r
-    same f = let q : y ≡ x = ey ∙ f .symbol in rw (q, ep, eg) at k
+  module _ (v g : ℕ) (known : Known b) (ev : v ≡ get16 b (slotSize * s + 2)) (eg : g ≡ tagIn b s) (r : Kids) (k : Kin rows t count x (v / 256) g r) where
+    ep : v / 256 ≡ productionIn b s
+    ep = both-in b s v ev known .1
 
     pub visited-unfit : r ≡ Unfit → Visited rows t count b s par x w i w Unfit
-    visited-unfit e = Visited.unfit refl (λ f. rw e at (same f))
+    visited-unfit e = Visited.unfit refl (λ f. rw (e, ep, eg) at k)
 
-    pub visited-body : (u : Bool) → Tells (Suits b s par x) u → u ≡ true → (v : ℕ) → r ≡ Body v → g < tagSpace → (w' : List ℕ) → Put w i (nodeOf s y p g) w' → Visited rows t count b s par x w i w' (Body v)
-    visited-body u h e v er l w' put = Visited.body (h .yes e) (rw er at (same (h .yes e))) (rw eg at l) (rw (ey, ep, eg) at put)
+    pub visited-body : (u : Bool) → Tells (Suits b s par x) u → u ≡ true → (y : ℕ) → r ≡ Body y → g < tagSpace → (w' : List ℕ) → Put w i (nodeOf s (v % 256) (v / 256) g) w' → Visited rows t count b s par x w i w' (Body y)
+    visited-body u h e y er l w' put = Visited.body (h .yes e) (rw (er, ep, eg) at k) (rw eg at l) (rw (both-in b s v ev known .0, ep, eg) at put)

@@ -124,7 +124,7 @@ fn suits(area: &[u8], s: usize, par: usize, x: usize) -> bool
     if two(area, at + 14) != 0 {
         return false;
     }
-    if base::wide(area[at + 2]) != x {
+    if two(area, at + 2) % 256 != x {
         return false;
     }
     if two(area, at + 4) != par {
@@ -175,10 +175,11 @@ fn visit(
 {
     if suits(area, s, par, x) {
         let at = trees::SLOT_SIZE * s;
-        let y = base::wide(area[at + 2]);
-        let p = base::wide(area[at + 3]);
+        let both = two(area, at + 2);
+        let y = both % 256;
+        let p = both / 256;
         let g = four(area, at + 10);
-        let Kids::Body(body) = kin(rows, words, t, count, y, p, g) else {
+        let Kids::Body(body) = kin(rows, words, t, count, x, p, g) else {
             return Kids::Unfit;
         };
         trees::put_node(w, i, s, y, p, g);

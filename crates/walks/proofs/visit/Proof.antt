@@ -1,4 +1,5 @@
-use Rattle.walks.specs.Judging.{visited-unlike, visited-unfit, visited-body}
+use Rattle.walks.specs.Judging.{visited-unlike, visited-unfit, visited-body, suits-low}
+use native.Mathlib.Omega.{arith}
 use borrow.Author.Needs.{needs}
 use Rattle.walks.proofs.visit.Statement.{statement}
 use Rattle.walks.proofs.visit.Tie as tie
@@ -9,23 +10,11 @@ suits-requires c κs = search needs
 mul-at : tie.Need-mul-at
 mul-at c = search needs
 
-add-wide : tie.Need-add-wide
-add-wide c = search needs
+add-two : tie.Need-add-two
+add-two c = search needs
 
-shared-slice-read-wide : tie.Need-shared-slice-read-wide
-shared-slice-read-wide c = search needs
-
-wide-requires : tie.Need-wide-requires
-wide-requires c κs = search needs
-
-add-wide-2 : tie.Need-add-wide-2
-add-wide-2 c = search needs
-
-shared-slice-read-wide-2 : tie.Need-shared-slice-read-wide-2
-shared-slice-read-wide-2 c = search needs
-
-wide-requires-2 : tie.Need-wide-requires-2
-wide-requires-2 c κs = search needs
+two-requires : tie.Need-two-requires
+two-requires c κs = search needs
 
 add-four : tie.Need-add-four
 add-four c = search needs
@@ -34,7 +23,7 @@ four-requires : tie.Need-four-requires
 four-requires c κs = search needs
 
 kin-requires : tie.Need-kin-requires
-kin-requires c κs = search needs
+kin-requires c κs = let h = suits-low (record { small = λ i. let h = (c .before .before .before .before .before .before .before .shared-slice-known .given) i in omega arith }) ((c .before .before .before .suits .ensures .yes) (search needs)) in search needs
 
 enum-known-body : tie.Need-enum-known-body
 enum-known-body c = search needs
@@ -43,16 +32,16 @@ enum-told : tie.Need-enum-told
 enum-told c = search needs
 
 returns : tie.Need-returns
-returns c = visited-unfit _ _ _ _ _ _ _ _ _ _ _ _ (search needs) (search needs) (search needs) _ (c .before .before .kin .ensures) (c .enum-told .given .1)
+returns c = visited-unfit _ _ _ _ _ _ _ _ _ _ _ (record { small = λ i. let h = (c .before .before .before .before .before .before .before .before .before .before .shared-slice-known .given) i in omega arith }) (c .before .before .before .before .two .ensures .0) (c .before .before .before .four .ensures .0) _ (c .before .before .kin .ensures) (c .enum-told .given .1)
 
 put-node-requires : tie.Need-put-node-requires
-put-node-requires c κs = search needs
+put-node-requires c κs = let h = suits-low (record { small = λ i. let h = (c .before .before .before .before .before .before .before .before .before .before .before .before .shared-slice-known .given) i in omega arith }) ((c .before .before .before .before .before .before .before .before .suits .ensures .yes) (search needs)) in search needs
 
 same-length : tie.Need-same-length
 same-length c = search needs
 
 returns-2 : tie.Need-returns-2
-returns-2 c = visited-body _ _ _ _ _ _ _ _ _ _ _ _ (search needs) (search needs) (search needs) _ (c .before .before .before .before .before .before .before .kin .ensures) _ (c .before .before .before .before .before .before .before .before .before .before .before .before .before .before .suits .ensures) (search needs) _ (c .before .before .before .before .before .body .given .1) (search needs) _ (c .before .before .put-node .ensures)
+returns-2 c = visited-body _ _ _ _ _ _ _ _ _ _ _ (record { small = λ i. let h = (c .before .before .before .before .before .before .before .before .before .before .before .before .before .before .before .shared-slice-known .given) i in omega arith }) (c .before .before .before .before .before .before .before .before .before .two .ensures .0) (c .before .before .before .before .before .before .before .before .four .ensures .0) _ (c .before .before .before .before .before .before .before .kin .ensures) _ (c .before .before .before .before .before .before .before .before .before .before .before .suits .ensures) (search needs) _ (c .before .before .before .before .before .body .given .1) (c .before .before .before .before .before .before .before .before .four .ensures .1) _ (c .before .before .put-node .ensures)
 
 returns-3 : tie.Need-returns-3
 returns-3 c = visited-unlike _ _ _ _ _ _ _ _ _ _ (c .before .suits .ensures) (search needs)
@@ -63,12 +52,8 @@ visit-spec =
     (tie.spec
     suits-requires
     mul-at
-    add-wide
-    shared-slice-read-wide
-    wide-requires
-    add-wide-2
-    shared-slice-read-wide-2
-    wide-requires-2
+    add-two
+    two-requires
     add-four
     four-requires
     kin-requires
