@@ -1,5 +1,5 @@
-# `make run` proves and builds what it shows; `make test` is the whole gate; `make bench` measures.
-.PHONY: run test bench clean
+# `make run` proves and builds what it shows, and so does `make example`, a C program; `make test` is the whole gate; `make bench` measures.
+.PHONY: run example test bench clean
 
 run:
 	rt check listing
@@ -16,6 +16,13 @@ run:
 	@echo "The same of 'allow host 7', which ends too soon: refused, reply 9 at token 2, expected the symbols 3, 4 or 5 (bits of 56)."
 	@echo
 	@echo 'allow host 7' | examples/tokens | tests/run-built target/bin/listing
+
+example:
+	rt staticlib kindlesap
+	@mkdir -p target/c
+	@tests/build-c target/c/edits examples/edits.c
+	@echo
+	@tests/run-built target/c/edits
 
 test:
 	@tests/gate

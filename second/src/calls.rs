@@ -18,26 +18,37 @@ const REPLIES: usize = 12;
 pub trait Case: Send + 'static {
     /// The numbers of the replies that the call gives.
     const REPLIES: &'static [usize];
+    /// The buffer that the call writes besides the reply.
+    const WRITTEN: &'static str;
+    /// What each sign says.
+    const SIGNS: &'static [&'static str];
 
     /// The case as the other program takes it.
     fn bytes(&self) -> Vec<u8>;
 
+    /// The buffers before the call, with signs as they should be after it.
+    fn before(&self) -> Answer;
+
     /// The reply to the case and the right answer.
     fn expected(&self) -> (Reply, Answer);
 
-    /// The next answer of the other program.
-    fn read_answer(&self, answers: &mut impl Read) -> io::Result<Answer>;
+    /// A rule that holds of every answer and that this program's own answer
+    /// breaks.
+    fn broken_rule(&self, _: Reply, _: &Answer) -> Option<&'static str> {
+        None
+    }
 
     /// How the case came about, then all that is needed to run it again.
     fn text(&self) -> String;
 }
 
-/// What a call leaves: the reply buffer, then the other lent buffers or signs
-/// about them, each with its name.
+/// What a call leaves: the reply buffer, the buffer that the call writes, and
+/// signs about the others, each 1 if what it says is so.
 #[derive(Clone, Debug, PartialEq)]
 pub struct Answer {
     pub reply: Vec<u8>,
-    pub others: Vec<(&'static str, Vec<u8>)>,
+    pub written: Vec<u8>,
+    pub signs: Vec<u8>,
 }
 
 /// What came of the cases.
@@ -48,11 +59,11 @@ struct Tally {
     replies: [usize; REPLIES],
 }
 
-/// Compares the program on each case of a seed. Writes the seed, each case
+/// Compares the program on so many cases of a seed. Writes the seed, each case
 /// that differs, how many cases got each reply, and the totals; returns how
 /// many failed, which are all those that did not pass.
 pub fn calls<C: Case>(
-    case: fn(u64, usize) -> C,
+    cases: impl Iterator<Item = C> + Send + 'static,
     seed: u64,
     count: usize,
     program: &mut Command,
@@ -64,8 +75,7 @@ pub fn calls<C: Case>(
     let input = child.stdin.take().expect("standard input is a pipe");
     let answers = child.stdout.take().expect("standard output is a pipe");
     let (sender, taken) = mpsc::sync_channel(AHEAD);
-    let cases = (0..count).map(move |number| case(seed, number));
-    let writer = thread::spawn(move || write_cases(cases, input, &sender));
+    let writer = thread::spawn(move || write_cases(cases.take(count), input, &sender));
     let tally = compare(seed, taken, BufReader::new(answers), out)?;
     writer.join().expect("writing cases does not panic");
     child.wait()?;
@@ -98,14 +108,20 @@ fn compare<C: Case>(
     for (number, case) in cases.into_iter().enumerate() {
         let (reply, expected) = case.expected();
         tally.replies[reply.number as usize] += 1;
-        match case.read_answer(&mut answers) {
-            Ok(answer) if answer == expected => tally.passed += 1,
-            Ok(answer) => {
-                write_case(seed, number, &case, &expected, out)?;
-                write_difference(&expected, &answer, out)?;
-            }
+        let broken_rule = case.broken_rule(reply, &expected);
+        let answer = read_answer(case.before(), &mut answers);
+        let is_equal = answer.as_ref().is_ok_and(|answer| *answer == expected);
+        if is_equal && broken_rule.is_none() {
+            tally.passed += 1;
+            continue;
+        }
+        write_case(seed, number, &case, &expected, out)?;
+        if let Some(rule) = broken_rule {
+            writeln!(out, "the second program breaks the rule: {rule}")?;
+        }
+        match answer {
+            Ok(answer) => write_difference::<C>(&expected, &answer, out)?,
             Err(fault) => {
-                write_case(seed, number, &case, &expected, out)?;
                 writeln!(out, "the other program does not answer: {fault}")?;
                 break;
             }
@@ -127,22 +143,40 @@ fn write_case(
     writeln!(out, "the second program replies: {reply}")
 }
 
-/// Writes the other program's reply and, of each other buffer, the first byte
-/// that differs.
-fn write_difference(expected: &Answer, answer: &Answer, out: &mut impl Write) -> io::Result<()> {
+/// Writes the other program's reply, the first byte of the written buffer that
+/// differs, and the signs that do.
+fn write_difference<C: Case>(
+    expected: &Answer,
+    answer: &Answer,
+    out: &mut impl Write,
+) -> io::Result<()> {
     let reply = show::hex(&answer.reply);
     writeln!(out, "the other program replies:  {reply}")?;
-    for ((name, ours), (_, other)) in expected.others.iter().zip(&answer.others) {
-        let mut bytes = ours.iter().zip(other).enumerate();
-        match bytes.find(|(_, (ours, other))| ours != other) {
-            Some((offset, (ours, other))) => writeln!(
-                out,
-                "{name}: byte {offset} differs, the second program has {ours}, the other {other}"
-            )?,
-            None => writeln!(out, "{name}: the same")?,
-        }
+    let name = C::WRITTEN;
+    match first_difference(&expected.written, &answer.written) {
+        Some((offset, ours, other)) => writeln!(
+            out,
+            "{name}: byte {offset} differs, the second program has {ours}, the other {other}"
+        )?,
+        None => writeln!(out, "{name}: the same")?,
+    }
+    let signs = C::SIGNS
+        .iter()
+        .zip(expected.signs.iter().zip(&answer.signs));
+    for (name, (ours, other)) in signs.filter(|(_, (ours, other))| ours != other) {
+        writeln!(
+            out,
+            "{name}: the second program has {ours}, the other {other}"
+        )?;
     }
     Ok(())
+}
+
+/// The first offset at which two buffers differ, and the bytes there.
+fn first_difference(ours: &[u8], other: &[u8]) -> Option<(usize, u8, u8)> {
+    let mut bytes = ours.iter().zip(other).enumerate();
+    let (offset, (&ours, &other)) = bytes.find(|(_, (ours, other))| ours != other)?;
+    Some((offset, ours, other))
 }
 
 /// Writes the counts of replies and the totals; returns how many failed.
@@ -163,22 +197,29 @@ pub fn numbers<const COUNT: usize>(numbers: [usize; COUNT]) -> Vec<u8> {
     numbers.concat()
 }
 
+/// Reads the next answer of the other program over what was lent: the reply,
+/// the written buffer, the signs.
+fn read_answer(before: Answer, answers: &mut impl Read) -> io::Result<Answer> {
+    let mut answer = before;
+    answers.read_exact(&mut answer.reply)?;
+    read_buffer(answers, &mut answer.written)?;
+    answers.read_exact(&mut answer.signs)?;
+    Ok(answer)
+}
+
 /// Reads into a buffer that holds what was there before the call: 0 if that is
 /// still so, or 1 and the bytes.
-pub fn read_buffer(answers: &mut impl Read, buffer: &mut [u8]) -> io::Result<()> {
-    match read_sign(answers)? {
+fn read_buffer(answers: &mut impl Read, buffer: &mut [u8]) -> io::Result<()> {
+    let mut sign = [0];
+    answers.read_exact(&mut sign)?;
+    match sign {
         [0] => Ok(()),
         [1] => answers.read_exact(buffer),
         _ => Err(Error::new(ErrorKind::InvalidData, "neither 0 nor 1")),
     }
 }
 
-/// Reads a sign of one byte.
-pub fn read_sign(answers: &mut impl Read) -> io::Result<[u8; 1]> {
-    let mut sign = [0];
-    answers.read_exact(&mut sign)?;
-    Ok(sign)
-}
-
+#[cfg(test)]
+pub mod checks;
 #[cfg(test)]
 mod tests;

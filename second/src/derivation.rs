@@ -1,6 +1,9 @@
 //! Derivation trees as this program holds them: a list of nodes with the root
 //! first and the children of each node side by side.
 
+use crate::tokens::Token;
+use std::ops::Range;
+
 /// A node. A leaf has production 0 and the tag of its token; any other node
 /// has tag 0.
 #[derive(Clone, Debug, PartialEq)]
@@ -53,6 +56,41 @@ impl Derivation {
         self.nodes.iter().filter(is_leaf).count()
     }
 
+    /// The sentence of the tree.
+    pub fn tokens(&self) -> Vec<Token> {
+        let nodes = self
+            .preorder
+            .iter()
+            .map(|&node| &self.nodes[usize::from(node)]);
+        let leaves = nodes.filter(|node| node.production == 0);
+        leaves
+            .map(|leaf| Token {
+                kind: leaf.symbol,
+                tag: leaf.tag,
+            })
+            .collect()
+    }
+
+    /// The tokens below each node, as a run of the sentence.
+    pub fn runs(&self) -> Vec<Range<usize>> {
+        let mut lengths = vec![0; self.nodes.len()];
+        // Children have higher numbers than their parents.
+        for (number, node) in self.nodes.iter().enumerate().rev() {
+            lengths[number] += usize::from(node.production == 0);
+            if number != 0 {
+                lengths[usize::from(node.parent)] += lengths[number];
+            }
+        }
+        let mut runs = vec![0..0; self.nodes.len()];
+        let mut start = 0;
+        for &number in &self.preorder {
+            let number = usize::from(number);
+            runs[number] = start..start + lengths[number];
+            start += usize::from(self.nodes[number].production == 0);
+        }
+        runs
+    }
+
     /// The slot of each node when the nodes are put, in preorder, into the
     /// slots of a list at least as long as the tree.
     pub fn in_slots(&self, slots: impl IntoIterator<Item = u16>) -> Vec<u16> {
@@ -95,5 +133,16 @@ mod tests {
     #[test]
     fn nodes_without_production_are_leaves() {
         assert_eq!(sample().leaves(), 3);
+        let kinds: Vec<u8> = sample().tokens().iter().map(|token| token.kind).collect();
+        assert_eq!(kinds, [4, 5, 3]);
+    }
+
+    #[test]
+    fn the_run_of_a_node_is_that_of_its_leaves() {
+        assert_eq!(sample().runs(), [0..3, 0..2, 2..3, 0..1, 1..2]);
+        let mut tree = sample();
+        // A node without children that is no leaf.
+        tree.nodes[3].production = 1;
+        assert_eq!(tree.runs(), [0..2, 0..1, 1..2, 0..0, 0..1]);
     }
 }

@@ -2,11 +2,10 @@
 //! that are no tokens, and inputs at and above the greatest length.
 
 use crate::compare::Input;
-use crate::image;
 use crate::listing::MAX_INPUT;
 use crate::random::Random;
 use crate::random_sentence;
-use crate::reference::IMAGE;
+use crate::reference;
 use crate::token_damage;
 use crate::tokens::{self, Token};
 use crate::tree::MAX_SLOTS;
@@ -27,7 +26,7 @@ pub fn input(seed: u64, number: usize) -> Input {
 }
 
 fn some_input(random: &mut Random, number: usize) -> (String, Vec<u8>) {
-    let grammar = image::read(&IMAGE).expect("the reference image is good");
+    let grammar = reference::grammar();
     let nodes = random.one_of(&[10, 50, 300, MAX_SLOTS, MAX_SLOTS + 300]);
     let mut tokens = random_sentence::tokens(random, &grammar, nodes);
     match number % 5 {

@@ -15,10 +15,17 @@ mod compare;
 mod damage;
 mod derivation;
 mod descent;
+mod edit;
+mod edit_case;
+mod edit_check;
 mod grammar;
 mod image;
+mod kept_slots;
+mod lent;
+mod limits;
 mod listing;
 mod listing_input;
+mod other_sentence;
 mod parse;
 mod parse_case;
 mod per_symbol;
@@ -26,6 +33,7 @@ mod prepare;
 mod prepare_case;
 mod random;
 mod random_grammar;
+mod random_lists;
 mod random_ll1;
 mod random_sentence;
 mod read_back;
@@ -34,6 +42,8 @@ mod reference;
 mod reply;
 mod sets;
 mod show;
+mod splice;
+mod starts;
 mod symbol_set;
 mod tables;
 mod token_damage;
@@ -66,7 +76,8 @@ const USAGE: &str = "usage:
                                      takes on standard input and answers on standard output
   second parses SEED COUNT PROGRAM [ARGUMENT ..]
   second reads SEED COUNT PROGRAM [ARGUMENT ..]
-                                     the same with parse and with read back
+  second edits SEED COUNT PROGRAM [ARGUMENT ..]
+                                     the same with parse, with read back and with edit
   second book RULES                  the token bytes of a book with RULES rules
   second bench-prepare COUNT FILE|-  nanoseconds of prepare and of copying the tables, each
                                      the mean of COUNT calls
@@ -75,7 +86,11 @@ const USAGE: &str = "usage:
                                      when all is checked, and of copying tree, tables and work
   second bench-read-back COUNT GRAMMAR TOKENS
                                      the same of read back, of the walk that tells a valid
-                                     tree alone, and of copying tree and tokens";
+                                     tree alone, and of copying tree and tokens
+  second bench-edit COUNT GRAMMAR TOKENS
+                                     the same of edits of a book in 1,000 slots, the best of
+                                     20 batches: another first, middle and last host, the
+                                     middle rule removed; and of copying tree, tables and work";
 
 /// Exit status for a command that could not be carried out.
 const NOT_RUN: u8 = 2;
@@ -115,13 +130,16 @@ fn run(words: &[&str]) -> Result<ExitCode, Box<dyn Error>> {
             Ok(status(failed))
         }
         ["prepares", seed, count, ref command @ ..] => {
-            compare_calls(prepare_case::case, seed, count, command)
+            compare_calls(prepare_case::cases, seed, count, command)
         }
         ["parses", seed, count, ref command @ ..] => {
-            compare_calls(parse_case::case, seed, count, command)
+            compare_calls(parse_case::cases, seed, count, command)
         }
         ["reads", seed, count, ref command @ ..] => {
-            compare_calls(read_back_case::case, seed, count, command)
+            compare_calls(read_back_case::cases, seed, count, command)
+        }
+        ["edits", seed, count, ref command @ ..] => {
+            compare_calls(edit_case::cases, seed, count, command)
         }
         ["bench-prepare", count, source] => {
             println!("{}", bench::prepare(count.parse()?, &read_source(source)?));
@@ -142,13 +160,18 @@ fn run(words: &[&str]) -> Result<ExitCode, Box<dyn Error>> {
             println!("{}", bench::read_back(count.parse()?, &image, &tokens)?);
             Ok(ExitCode::SUCCESS)
         }
+        ["bench-edit", count, image, tokens] => {
+            let (image, tokens) = (read_source(image)?, read_source(tokens)?);
+            println!("{}", bench::edit(count.parse()?, &image, &tokens)?);
+            Ok(ExitCode::SUCCESS)
+        }
         _ => Err(USAGE.into()),
     }
 }
 
 /// Compares the calls of a program, which comes with its arguments.
-fn compare_calls<C: calls::Case>(
-    case: fn(u64, usize) -> C,
+fn compare_calls<C: calls::Case, I: Iterator<Item = C> + Send + 'static>(
+    cases: fn(u64) -> I,
     seed: &str,
     count: &str,
     command: &[&str],
@@ -157,7 +180,7 @@ fn compare_calls<C: calls::Case>(
     let mut command = Command::new(program);
     command.args(arguments);
     let (seed, count) = (seed.parse()?, count.parse()?);
-    let failed = calls::calls(case, seed, count, &mut command, &mut io::stdout())?;
+    let failed = calls::calls(cases(seed), seed, count, &mut command, &mut io::stdout())?;
     Ok(status(failed))
 }
 

@@ -42,16 +42,23 @@ fn check_and_write(
     if tree::slots(area.len()).is_none() {
         return Err(Reply::WRONG_AREA);
     }
-    let needed = WORK_AREAS * area.len();
-    if work_length < needed {
-        return Err(Reply::short_work(needed));
-    }
+    check_work(area.len(), work_length)?;
     let tokens = tokens::read(token_bytes, grammar.t).map_err(Reply::bad_token)?;
     write_tree(&grammar, tables, &tokens, area)
 }
 
+/// Reply 6 if the work area is too short.
+pub fn check_work(area_length: usize, work_length: usize) -> Result<(), Reply> {
+    let needed = WORK_AREAS * area_length;
+    if work_length < needed {
+        Err(Reply::short_work(needed))
+    } else {
+        Ok(())
+    }
+}
+
 /// Whether the tables are what prepare writes for the grammar.
-fn are_prepared(grammar: &Grammar, sets: &Sets, lent: &[u8]) -> bool {
+pub fn are_prepared(grammar: &Grammar, sets: &Sets, lent: &[u8]) -> bool {
     let mut right = [0; TABLE_BYTES];
     lent.len() == TABLE_BYTES && {
         tables::write(grammar, sets, &mut right);

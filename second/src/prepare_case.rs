@@ -13,7 +13,6 @@ use crate::reference::IMAGE;
 use crate::reply::{Reply, REPLY_BYTES};
 use crate::show;
 use crate::tables::TABLE_BYTES;
-use std::io::{self, Read};
 
 /// The byte with which a case of prepare begins.
 const PREPARE: u8 = b'P';
@@ -28,9 +27,14 @@ pub struct Case {
     pub fill: u8,
 }
 
+/// The cases of a seed.
+pub fn cases(seed: u64) -> impl Iterator<Item = Case> {
+    (0..).map(move |number| case(seed, number))
+}
+
 /// A case of a seed. The first cases are the reference image and example L;
 /// of the others, every second has an LL(1) grammar without useless symbols.
-pub fn case(seed: u64, number: usize) -> Case {
+fn case(seed: u64, number: usize) -> Case {
     if let Some((kind, image)) = fixed_images().into_iter().nth(number) {
         return Case {
             kind,
@@ -94,18 +98,10 @@ fn tables_length(random: &mut Random) -> usize {
     }
 }
 
-impl Case {
-    /// The buffers before the call.
-    fn before(&self) -> Answer {
-        Answer {
-            reply: vec![self.fill; self.reply_length],
-            others: vec![("tables", vec![self.fill; self.tables_length])],
-        }
-    }
-}
-
 impl calls::Case for Case {
     const REPLIES: &'static [usize] = &[0, 1, 2, 3, 4];
+    const WRITTEN: &'static str = "tables";
+    const SIGNS: &'static [&'static str] = &[];
 
     /// The letter of the call, the lengths of image, tables and reply, the
     /// fill byte, the image.
@@ -114,20 +110,19 @@ impl calls::Case for Case {
         [&[PREPARE][..], &lengths, &[self.fill], &self.image].concat()
     }
 
-    fn expected(&self) -> (Reply, Answer) {
-        let mut answer = self.before();
-        let reply = prepare(&self.image, &mut answer.others[0].1);
-        reply.write(&mut answer.reply);
-        (reply, answer)
+    fn before(&self) -> Answer {
+        Answer {
+            reply: vec![self.fill; self.reply_length],
+            written: vec![self.fill; self.tables_length],
+            signs: Vec::new(),
+        }
     }
 
-    /// The reply, then 0 if the tables are still as before, or 1 and the
-    /// tables.
-    fn read_answer(&self, answers: &mut impl Read) -> io::Result<Answer> {
+    fn expected(&self) -> (Reply, Answer) {
         let mut answer = self.before();
-        answers.read_exact(&mut answer.reply)?;
-        calls::read_buffer(answers, &mut answer.others[0].1)?;
-        Ok(answer)
+        let reply = prepare(&self.image, &mut answer.written);
+        reply.write(&mut answer.reply);
+        (reply, answer)
     }
 
     fn text(&self) -> String {

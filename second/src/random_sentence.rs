@@ -1,5 +1,5 @@
-//! Random sentences of a grammar without useless symbols, made by leftmost
-//! derivations of about a wanted size.
+//! Random sentences of a grammar without useless symbols, and what its symbols
+//! derive, made by leftmost derivations of about a wanted size.
 
 use crate::grammar::Grammar;
 use crate::per_symbol::PerSymbol;
@@ -16,6 +16,17 @@ const GREAT: usize = 1 << 20;
 /// A sentence of such kinds, with any tags.
 pub fn tokens(random: &mut Random, grammar: &Grammar, nodes: usize) -> Vec<Token> {
     let kinds = kinds(random, grammar, nodes);
+    with_tags(random, kinds)
+}
+
+/// The same from any nonterminal.
+pub fn tokens_from(random: &mut Random, grammar: &Grammar, symbol: u8, nodes: usize) -> Vec<Token> {
+    let kinds = kinds_from(random, grammar, symbol, nodes);
+    with_tags(random, kinds)
+}
+
+/// Tokens of these kinds, with any tags.
+fn with_tags(random: &mut Random, kinds: Vec<u8>) -> Vec<Token> {
     let with_tag = |kind| Token {
         kind,
         tag: token_damage::tag(random),
@@ -26,16 +37,21 @@ pub fn tokens(random: &mut Random, grammar: &Grammar, nodes: usize) -> Vec<Token
 /// The kinds of a sentence whose tree has at most this many nodes, if there is
 /// one; else of a small sentence, which may be cut.
 pub fn kinds(random: &mut Random, grammar: &Grammar, nodes: usize) -> Vec<u8> {
+    kinds_from(random, grammar, grammar.start, nodes)
+}
+
+/// The same from any nonterminal.
+fn kinds_from(random: &mut Random, grammar: &Grammar, symbol: u8, nodes: usize) -> Vec<u8> {
     let least = least_nodes(grammar);
     let mut growth = Growth {
         grammar,
         nodes,
-        needed: least[grammar.start],
+        needed: least[symbol],
         least,
         seldom: random.one_of(&[1, 4, 100]),
     };
     let mut kinds = Vec::new();
-    let mut open = vec![grammar.start];
+    let mut open = vec![symbol];
     for _ in 0..MAX_STEPS {
         let Some(symbol) = open.pop() else {
             break;

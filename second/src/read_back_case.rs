@@ -11,13 +11,12 @@ use crate::image;
 use crate::random::Random;
 use crate::random_sentence;
 use crate::read_back::read_back;
-use crate::reference::IMAGE;
+use crate::reference::{self, IMAGE};
 use crate::reply::{Reply, REPLY_BYTES};
 use crate::show;
 use crate::tables;
 use crate::tokens::{self, Token, TOKEN_BYTES};
 use crate::tree::{self, area_bytes, MAX_SLOTS};
-use std::io::{self, Read};
 
 /// The byte with which a case of read back begins.
 const READ_BACK: u8 = b'R';
@@ -36,23 +35,32 @@ pub struct Case {
     pub fill: u8,
 }
 
+/// The cases of a seed.
+pub fn cases(seed: u64) -> impl Iterator<Item = Case> {
+    (0..).map(move |number| case(seed, number))
+}
+
 /// A case of a seed. The first cases are the trees of the empty sentence, of U
 /// and of V; of the others, every third has a tree as it was written.
-pub fn case(seed: u64, number: usize) -> Case {
+fn case(seed: u64, number: usize) -> Case {
     if let Some(case) = example(number) {
         return case;
     }
     let random = &mut Random::of_case(seed, number as u64);
     let (kind, grammar, derivation) = some_tree(random);
     let mut kinds = vec![kind];
-    let mut area = in_any_slots(random, &derivation);
+    let slots = some_slots(random, derivation.nodes.len());
+    let mut area = choices::in_any_slots(random, &derivation, slots);
     let output_length = some_output_length(random, derivation.leaves());
     let mut image = image::records(&grammar).concat();
     if number % 3 != 0 {
         kinds.push(area_damage::changed(random, &grammar, &mut area));
     }
     if random.once_in(4) {
-        let (kind, other) = other_image(random, &grammar);
+        let (kind, other) = match random.below(5) {
+            0 | 1 => choices::other_ll1_image(random, &grammar),
+            _ => choices::bad_image(random, &grammar),
+        };
         image = other;
         kinds.push(kind);
     }
@@ -74,7 +82,7 @@ fn example(number: usize) -> Option<Case> {
         ("V", &[1, 2, 5, 1, 2, 5]),
     ];
     let (kind, kinds) = *examples.get(number)?;
-    let grammar = image::read(&IMAGE).expect("the reference image is good");
+    let grammar = reference::grammar();
     let tokens = tokens::numbered(kinds.iter().copied());
     let derivation = derivation(&grammar, &tokens)?;
     let mut area = vec![0; area_bytes(MAX_SLOTS)];
@@ -107,25 +115,12 @@ fn derivation(grammar: &Grammar, tokens: &[Token]) -> Option<Derivation> {
     descent::parse(grammar, &tables::of(grammar), tokens, MAX_SLOTS).ok()
 }
 
-/// A tree in an area of any size, in the first slots or in any, in preorder
-/// or in any order.
-fn in_any_slots(random: &mut Random, derivation: &Derivation) -> Vec<u8> {
-    let nodes = derivation.nodes.len();
+/// As many slots as a tree has nodes, or more.
+fn some_slots(random: &mut Random, nodes: usize) -> usize {
     let few = nodes + random.below(10);
     let any = nodes + random.below(MAX_SLOTS - nodes + 1);
     let slots = random.one_of(&[nodes, few, few, any, MAX_SLOTS]);
-    let slots = slots.min(MAX_SLOTS);
-    let mut order: Vec<u16> = (1..=slots as u16).collect();
-    if !random.once_in(4) {
-        random.shuffle(&mut order);
-    }
-    if random.once_in(4) {
-        order.truncate(nodes);
-        order.sort();
-    }
-    let mut area = vec![0; area_bytes(slots)];
-    tree::write(derivation, &derivation.in_slots(order), &mut area);
-    area
+    slots.min(MAX_SLOTS)
 }
 
 /// Mostly enough for this many tokens, often just so.
@@ -140,41 +135,10 @@ fn some_output_length(random: &mut Random, tokens: usize) -> usize {
     }
 }
 
-/// A bad image, or the image of an LL(1) grammar for which the tree is a
-/// foreign one: any, or one with the same productions in another order.
-fn other_image(random: &mut Random, grammar: &Grammar) -> (&'static str, Vec<u8>) {
-    let (kind, other) = match random.below(5) {
-        0 => ("foreign grammar", choices::ll1_grammar(random).1),
-        1 => {
-            let mut other = grammar.clone();
-            random.shuffle(&mut other.productions);
-            ("productions in another order", other)
-        }
-        _ => return choices::bad_image(random, grammar),
-    };
-    (kind, image::records(&other).concat())
-}
-
-impl Case {
-    /// The answer that the buffers of a call make.
-    fn answer(&self, output: Vec<u8>, inputs_unchanged: [u8; 1]) -> Answer {
-        Answer {
-            reply: vec![self.fill; self.reply_length],
-            others: vec![
-                ("output", output),
-                ("sign that no input changed", inputs_unchanged.to_vec()),
-            ],
-        }
-    }
-
-    /// The output before the call.
-    fn output(&self) -> Vec<u8> {
-        vec![self.fill; self.output_length]
-    }
-}
-
 impl calls::Case for Case {
     const REPLIES: &'static [usize] = &[0, 1, 2, 3, 5, 11];
+    const WRITTEN: &'static str = "output";
+    const SIGNS: &'static [&'static str] = &["image and tree unchanged"];
 
     /// The letter of the call, the lengths of image, tree, output and reply,
     /// the fill byte, the image, the tree area.
@@ -195,26 +159,19 @@ impl calls::Case for Case {
         parts.concat()
     }
 
-    fn expected(&self) -> (Reply, Answer) {
-        let mut output = self.output();
-        let reply = read_back(&self.image, &self.area, &mut output);
-        let mut answer = self.answer(output, [1]);
-        reply.write(&mut answer.reply);
-        (reply, answer)
+    fn before(&self) -> Answer {
+        Answer {
+            reply: vec![self.fill; self.reply_length],
+            written: vec![self.fill; self.output_length],
+            signs: vec![1],
+        }
     }
 
-    /// The reply, 0 if the output is still full of the fill byte or 1 and the
-    /// output, 1 if image and tree area are as before.
-    fn read_answer(&self, answers: &mut impl Read) -> io::Result<Answer> {
-        let mut reply = vec![0; self.reply_length];
-        answers.read_exact(&mut reply)?;
-        let mut output = self.output();
-        calls::read_buffer(answers, &mut output)?;
-        let inputs_unchanged = calls::read_sign(answers)?;
-        Ok(Answer {
-            reply,
-            ..self.answer(output, inputs_unchanged)
-        })
+    fn expected(&self) -> (Reply, Answer) {
+        let mut answer = self.before();
+        let reply = read_back(&self.image, &self.area, &mut answer.written);
+        reply.write(&mut answer.reply);
+        (reply, answer)
     }
 
     fn text(&self) -> String {

@@ -12,14 +12,18 @@ const BAD_RECORD: u32 = 1;
 const USELESS: u32 = 2;
 /// The grammar is not LL(1).
 const CONFLICT: u32 = 3;
-/// The tables have another length or, in parse, are not what prepare writes.
+/// The tables have another length or, in parse and edit, are not what prepare
+/// writes.
 const WRONG_TABLES: u32 = 4;
-/// The area's length is wrong or, in read back, the area is no valid tree.
+/// The area's length is wrong or, in edit and read back, the area is no valid
+/// tree.
 const WRONG_AREA: u32 = 5;
 /// The work area is shorter than three times the tree area.
 const SHORT_WORK: u32 = 6;
 /// The token bytes end inside a record, or a kind is not 1..t.
 const BAD_TOKEN: u32 = 7;
+/// Place plus removed exceeds the old token count.
+const OUT_OF_RANGE: u32 = 8;
 /// The sentence is not in the language.
 const SYNTAX: u32 = 9;
 /// The tree has no room in the area.
@@ -35,9 +39,11 @@ const NUMBER: Range<usize> = 0..4;
 const PLACE: Range<usize> = 4..12;
 const EXPECTED: Range<usize> = 12..16;
 const TOTAL: Range<usize> = 16..20;
+const KEPT: Range<usize> = 20..24;
 const MADE: Range<usize> = 24..28;
+const GIVEN_UP: Range<usize> = 28..32;
 
-/// A reply. Kept and given up, which no call here counts, are 0.
+/// A reply. Fields that a reply does not have are 0.
 #[derive(Clone, Copy, Debug, PartialEq)]
 pub struct Reply {
     pub number: u32,
@@ -46,8 +52,12 @@ pub struct Reply {
     pub expected: u32,
     /// How many nodes the stored tree has.
     pub total: u32,
+    /// How many of them kept their slots.
+    pub kept: u32,
     /// How many of them the call made.
     pub made: u32,
+    /// How many nodes of the tree before are not in it any more.
+    pub given_up: u32,
 }
 
 impl Reply {
@@ -70,7 +80,9 @@ impl Reply {
             place,
             expected: 0,
             total: 0,
+            kept: 0,
             made: 0,
+            given_up: 0,
         }
     }
 
@@ -87,6 +99,16 @@ impl Reply {
         Reply {
             total: total as u32,
             ..Reply::ACCEPTED
+        }
+    }
+
+    /// Reply 0 of edit.
+    pub fn edited(total: usize, kept: usize, made: usize, given_up: usize) -> Reply {
+        Reply {
+            kept: kept as u32,
+            made: made as u32,
+            given_up: given_up as u32,
+            ..Reply::read_back(total)
         }
     }
 
@@ -115,6 +137,11 @@ impl Reply {
         Reply::with_place(BAD_TOKEN, record as u64)
     }
 
+    /// Reply 8, its place the old token count.
+    pub fn out_of_range(tokens: usize) -> Reply {
+        Reply::with_place(OUT_OF_RANGE, tokens as u64)
+    }
+
     /// Reply 9, its place the token that was not expected.
     pub fn syntax(token: usize, expected: u32) -> Reply {
         Reply {
@@ -139,7 +166,9 @@ impl Reply {
         bytes[PLACE].copy_from_slice(&self.place.to_le_bytes());
         bytes[EXPECTED].copy_from_slice(&self.expected.to_le_bytes());
         bytes[TOTAL].copy_from_slice(&self.total.to_le_bytes());
+        bytes[KEPT].copy_from_slice(&self.kept.to_le_bytes());
         bytes[MADE].copy_from_slice(&self.made.to_le_bytes());
+        bytes[GIVEN_UP].copy_from_slice(&self.given_up.to_le_bytes());
         bytes
     }
 
@@ -163,17 +192,15 @@ mod tests {
         place: 0x0c0b_0a09_0807_0605,
         expected: 0x100f_0e0d,
         total: 0x1413_1211,
+        kept: 0x1817_1615,
         made: 0x1c1b_1a19,
+        given_up: 0x201f_1e1d,
     };
 
     #[test]
     fn fields_are_little_endian_and_in_order() {
-        let bytes = REPLY.bytes();
-        let first: Vec<u8> = (1..=20).collect();
-        assert_eq!(bytes[..20], first);
-        assert_eq!(bytes[20..24], [0; 4]);
-        assert_eq!(bytes[24..28], [25, 26, 27, 28]);
-        assert_eq!(bytes[28..], [0; 4]);
+        let expected: Vec<u8> = (1..=32).collect();
+        assert_eq!(REPLY.bytes()[..], expected);
     }
 
     #[test]
@@ -194,13 +221,11 @@ mod tests {
     }
 
     #[test]
-    fn parse_counts_total_and_made_and_read_back_total_alone() {
-        let parsed = Reply::parsed(9);
-        assert_eq!((parsed.number, parsed.total, parsed.made), (0, 9, 9));
-        let read_back = Reply::read_back(9);
-        assert_eq!(
-            (read_back.number, read_back.total, read_back.made),
-            (0, 9, 0)
-        );
+    fn parse_counts_total_and_made_edit_all_four_and_read_back_total_alone() {
+        let counts = |reply: Reply| (reply.total, reply.kept, reply.made, reply.given_up);
+        assert_eq!(counts(Reply::parsed(9)), (9, 0, 9, 0));
+        assert_eq!(counts(Reply::edited(9, 4, 5, 6)), (9, 4, 5, 6));
+        assert_eq!(counts(Reply::read_back(9)), (9, 0, 0, 0));
+        assert!(Reply::edited(9, 4, 5, 6).is_accepted());
     }
 }

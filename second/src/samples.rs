@@ -2,8 +2,9 @@
 
 use crate::grammar::Grammar;
 use crate::image;
-use crate::reference::IMAGE;
 use crate::tokens::{self, Token};
+
+pub use crate::reference::grammar as reference;
 
 /// A grammar from its parts.
 pub fn grammar(t: u8, n: u8, start: u8, productions: &[(u8, &[u8])]) -> Grammar {
@@ -22,11 +23,6 @@ pub fn grammar(t: u8, n: u8, start: u8, productions: &[(u8, &[u8])]) -> Grammar 
 /// The image of a grammar from its parts.
 pub fn image(t: u8, n: u8, start: u8, productions: &[(u8, &[u8])]) -> Vec<u8> {
     image::records(&grammar(t, n, start, productions)).concat()
-}
-
-/// The reference grammar.
-pub fn reference() -> Grammar {
-    image::read(&IMAGE).expect("the reference image is good")
 }
 
 /// Tokens of these kinds, no two with the same tag.
@@ -53,40 +49,4 @@ pub fn expressions() -> Grammar {
         (8, &[3]),
     ];
     grammar(3, 5, 4, &productions)
-}
-
-/// An LL(1) grammar of 31 terminals, 32 nonterminals and 128 productions. Each
-/// nonterminal has one production that leads to the next, the last one back to
-/// the first, and three that hold a terminal alone.
-pub fn largest() -> Grammar {
-    let (t, n) = (31, 32);
-    let next = |row: u8| t + 1 + (row + 1) % n;
-    let productions = (0..n)
-        .flat_map(|row| {
-            let left = t + 1 + row;
-            let ends = (1..=3).map(move |a| (left, vec![a]));
-            std::iter::once((left, vec![t, next(row)])).chain(ends)
-        })
-        .collect();
-    Grammar {
-        t,
-        n,
-        start: t + 1,
-        productions,
-    }
-}
-
-/// The longest stem: each of 32 nonterminals has the next as its only body,
-/// and the last has terminal 31.
-pub fn chain() -> Grammar {
-    let productions = (32..63)
-        .map(|left| (left, vec![left + 1]))
-        .chain([(63, vec![31])])
-        .collect();
-    Grammar {
-        t: 31,
-        n: 32,
-        start: 32,
-        productions,
-    }
 }

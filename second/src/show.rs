@@ -11,7 +11,7 @@ use crate::tables::TABLE_BYTES;
 pub fn grammar_text(image: &[u8]) -> String {
     match image::read(image) {
         Ok(grammar) => good_grammar(&grammar),
-        Err(offset) => refused(Reply::bad_record(offset)),
+        Err(offset) => refused(Reply::bad_record(offset)) + "\n",
     }
 }
 
@@ -27,7 +27,7 @@ pub fn tables_text(image: &[u8]) -> String {
                 .chain(lines)
                 .collect()
         }
-        reply => refused(reply),
+        reply => refused(reply) + "\n",
     }
 }
 
@@ -65,8 +65,9 @@ fn good_grammar(grammar: &Grammar) -> String {
     text
 }
 
-fn refused(reply: Reply) -> String {
-    format!("refused {} {}\n", reply.number, reply.place)
+/// A refusal by its number and place.
+pub fn refused(reply: Reply) -> String {
+    format!("refused {} {}", reply.number, reply.place)
 }
 
 #[cfg(test)]

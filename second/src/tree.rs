@@ -1,8 +1,9 @@
 //! Tree areas: a header of 16 bytes, then S slots of 16 bytes, the first of
-//! which is slot 1. A tree is written into any slots; reading finds the
-//! sentence of a valid tree, and nothing in any other area.
+//! which is slot 1. A tree is written into any slots, and a valid area gives
+//! its tree and slots again; reading finds the sentence of a valid tree, and
+//! nothing in any other area.
 
-use crate::derivation::Derivation;
+use crate::derivation::{Derivation, Node};
 use crate::grammar::Grammar;
 use crate::tokens::Token;
 
@@ -147,6 +148,44 @@ pub fn write(derivation: &Derivation, slot_of: &[u16], area: &mut [u8]) {
         };
         content.write(area, slot);
     }
+}
+
+/// The tree of a valid area and the slot of each node: the inverse of writing.
+pub fn derivation(area: &[u8]) -> (Derivation, Vec<u16>) {
+    let content = |slot: u16| Slot::read(area, slot).expect("a valid tree links used slots");
+    let header = Header::read(area).expect("a valid tree has a header");
+    let used = usize::from(header.used);
+    let mut nodes = Vec::with_capacity(used);
+    let mut slot_of = Vec::with_capacity(used);
+    let mut preorder = Vec::with_capacity(used);
+    nodes.push(Node::root(content(header.root).symbol));
+    slot_of.push(header.root);
+    let mut open = vec![0];
+    while let Some(number) = open.pop() {
+        preorder.push(number);
+        let slot = content(slot_of[usize::from(number)]);
+        let first = nodes.len() as u16;
+        let mut child = slot.first_child;
+        while child != 0 {
+            let Slot {
+                symbol,
+                next_sibling,
+                ..
+            } = content(child);
+            nodes.push(Node {
+                is_last: next_sibling == 0,
+                ..Node::of(symbol, number)
+            });
+            slot_of.push(child);
+            child = next_sibling;
+        }
+        open.extend((first..nodes.len() as u16).rev());
+        let node = &mut nodes[usize::from(number)];
+        node.production = slot.production;
+        node.tag = slot.tag;
+        node.first_child = if slot.first_child == 0 { 0 } else { first };
+    }
+    (Derivation { nodes, preorder }, slot_of)
 }
 
 /// What a valid tree holds.

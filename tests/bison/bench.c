@@ -3,19 +3,20 @@
  * The tree is written as `symbol production tag` in preorder, a line for each node, if there is an argument.
  */
 #define _POSIX_C_SOURCE 199309L
+#include "../c/timing.h"
 #include "book.h"
 
 #include <stdio.h>
-#include <time.h>
 
 static uint8_t tokens[1 << 13];
+static size_t tokens_len;
 static struct book book;
+static int refused;
 
-static double now(void)
+static void parse(void)
 {
-    struct timespec t;
-    clock_gettime(CLOCK_MONOTONIC, &t);
-    return t.tv_sec * 1e9 + t.tv_nsec;
+    refused |= book_parse(&book, tokens, tokens_len);
+    __asm__ volatile("" : : "r"(&book) : "memory");
 }
 
 /* The number of nodes of a subtree. */
@@ -31,21 +32,15 @@ static size_t walk(const struct node *top, int print)
 
 int main(int argc, char **argv)
 {
-    enum { CALLS = 2000 };
+    struct timed calls[] = {{parse, 0}};
     (void)argv;
-    size_t n = fread(tokens, 1, sizeof tokens, stdin);
-    int refused = 0;
-    double start = now();
-    for (int i = 0; i < CALLS; i++) {
-        refused |= book_parse(&book, tokens, n);
-        __asm__ volatile("" : : "r"(&book) : "memory");
-    }
-    double bison = (now() - start) / CALLS;
+    tokens_len = fread(tokens, 1, sizeof tokens, stdin);
+    timing(calls, 1, 40, 20);
     if (refused) {
         printf("refused\n");
         return 1;
     }
     size_t nodes = walk(book.root, argc > 1);
-    printf("bison %.0f nodes %zu\n", bison, nodes);
+    printf("bison %.0f nodes %zu\n", calls[0].nanos, nodes);
     return 0;
 }

@@ -12,6 +12,8 @@
  * says, with fill bytes beyond. The answer is: the reply buffer; 0 if the tree is as it was sent, else 1 and the tree; 1 if image, tables
  * and tokens are as they were, else 0; 1 if every byte of the work area is zero, else 0.
  *
+ * Edit: 'E', the place, the number removed, then all that parse has behind its letter. The answer is as for parse.
+ *
  * Read back: 'R', the lengths of image, tree, output and reply, a fill byte, the image, the tree. The answer is: the reply buffer; 0 if every
  * byte of the output is still the fill byte, else 1 and the output; 1 if image and tree are as they were, else 0.
  */
@@ -21,7 +23,7 @@
 #include <stdlib.h>
 #include <string.h>
 
-enum { MOST = 1 << 17 };
+enum { MOST = 1 << 19 };
 
 /* A buffer of the call, and what it held before. */
 struct buffer {
@@ -104,7 +106,7 @@ static void prepare(void)
 /* Prepared tables with some bytes changed. */
 static void take_changes(void)
 {
-    memset(tables.bytes, fill, MOST);
+    memset(tables.bytes, fill, tables.len > KINDLESAP_TABLES_SIZE ? tables.len : KINDLESAP_TABLES_SIZE);
     kindlesap_prepare(image.bytes, image.len, tables.bytes, KINDLESAP_TABLES_SIZE, NULL, 0);
     for (size_t changes = number(); changes > 0; changes--) {
         size_t place = number();
@@ -115,7 +117,8 @@ static void take_changes(void)
     memcpy(tables.before, tables.bytes, tables.len);
 }
 
-static void parse(void)
+/* What parse and edit are lent. */
+static void take_lent(void)
 {
     uint8_t by_changes;
     take(&by_changes, 1);
@@ -135,12 +138,32 @@ static void parse(void)
     take_bytes(&tree);
     fill_bytes(&work);
     fill_bytes(&reply);
-    kindlesap_parse(image.bytes, image.len, tables.bytes, tables.len, tokens.bytes, tokens.len, tree.bytes, tree.len, work.bytes, work.len,
-                    reply.bytes, reply.len);
+}
+
+/* What parse and edit leave. */
+static void give_left(void)
+{
     give_reply();
     give(&tree);
     putchar(unchanged(&image) && unchanged(&tables) && unchanged(&tokens));
     putchar(zero(&work));
+}
+
+static void parse(void)
+{
+    take_lent();
+    kindlesap_parse(image.bytes, image.len, tables.bytes, tables.len, tokens.bytes, tokens.len, tree.bytes, tree.len, work.bytes, work.len,
+                    reply.bytes, reply.len);
+    give_left();
+}
+
+static void edit(void)
+{
+    uint32_t place = (uint32_t)number(), removed = (uint32_t)number();
+    take_lent();
+    kindlesap_edit(image.bytes, image.len, tables.bytes, tables.len, tree.bytes, tree.len, place, removed, tokens.bytes, tokens.len, work.bytes,
+                   work.len, reply.bytes, reply.len);
+    give_left();
 }
 
 static void read_back(void)
@@ -170,6 +193,9 @@ int main(void)
             break;
         case 'S':
             parse();
+            break;
+        case 'E':
+            edit();
             break;
         case 'R':
             read_back();

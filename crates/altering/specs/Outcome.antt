@@ -1,9 +1,9 @@
 -- What an edit of a valid tree by good tokens comes to, where the range is right: the new tree, or the plain parse's refusal.
-use Prim.Native.Nat.{ℕ, _-_}
+use Prim.Native.Nat.{ℕ, _-_, _≤_}
 use mathlib.Core.List.{List}
 use Rattle.grammar.specs.Grammar.{Grammar}
 use Rattle.grammar.specs.Forest.{Forest, size, yield}
-use Rattle.trees.specs.Area.{Area, Valid}
+use Rattle.trees.specs.Area.{maxSlots, Area, Valid}
 use Rattle.plain.specs.Plain.{syntax, noRoom, Parses}
 use Rattle.edits.specs.Keeping.{Edit, edited, Altered as NewTree}
 use Rattle.altering.specs.declared.Alteration.{Alteration}
@@ -19,3 +19,9 @@ pub data Alters (G : Grammar) (S : ℕ) (e : Edit) (tree : List ℕ) (old : Fore
 -- whichever valid tree the area is
 pub record AltersTree (G : Grammar) (S : ℕ) (e : Edit) (tree : List ℕ) (r : Alteration) (tree' : List ℕ) : Type 0 where
   pub all : (v : Valid G S tree) → Alters G S e tree (v .tree) r tree'
+
+-- the answer's numbers, where the old tree has o nodes
+pub data Few (o : ℕ) : Alteration → Type 0 where
+  altered : {k r : ℕ} → r ≤ k → r ≤ o → k ≤ maxSlots → Few o (Altered k r)
+  wrong-syntax : {i x : ℕ} → Few o (Syntax i x)
+  no-room : Few o NoRoom

@@ -1,5 +1,5 @@
 -- A tree area that was walked, and the list of its nodes.
-use Prim.Native.Nat.{ℕ, _-_, _≤_}
+use Prim.Native.Nat.{ℕ, _+_, _-_, _*_, _≤_}
 use mathlib.Core.Path.{_≡_, sym, ap, _∙_}
 use lib.ListN.{length}
 use mathlib.Core.List.{List}
@@ -9,13 +9,17 @@ use Rattle.grammar.specs.Grammar.{Grammar}
 use Rattle.grammar.specs.Forest.{size, yield}
 use Rattle.grammar.specs.Rows.{lengthAt, grammarIn}
 use Rattle.grammar.specs.RowRules.{rule-row}
-use Rattle.trees.specs.Area.{maxSlots, Valid}
+use Rattle.trees.specs.Area.{maxSlots, areaSize, Valid}
 use Rattle.trees.specs.Nodes.{preorder, leavesOf, leaves-yield, Arity, derives-formed}
-use Rattle.trees.specs.Coded.{nodesFrom, arityIn}
+use Rattle.trees.specs.Coded.{nodeSize, nodesFrom, arityIn}
 use Rattle.plain.specs.Machine.{length-symbols}
 use Rattle.walks.specs.Reading.{valid-few, size-preorder}
 use Rattle.walks.specs.Closing.{Reads}
 use Rattle.walks.specs.declared.Walked.{Walked}
+
+-- "work shorter than three times the tree area"
+abbrev pub workAreas : ℕ
+workAreas = 3
 
 -- the rows say how many children a production has
 pub arity-rows : (rows : List ℕ) (t n start count : ℕ) → Arity (grammarIn rows t n start count) (arityIn rows)
@@ -53,3 +57,13 @@ module _ (rows : List ℕ) (t n start count S : ℕ) (tree nodes : List ℕ) (o 
 
   pub treed-few : o ≤ maxSlots
   treed-few = omega (arith, treed-fits, h .valid .few)
+
+  pub treed-sized : (1 ≤ S) × (S ≤ maxSlots) × (o ≤ S) × (length tree ≡ areaSize S)
+  treed-sized = (h .valid .some, h .valid .few, treed-fits, h .valid .area .long)
+
+  -- the work area holds both lists of nodes
+  pub treed-long : workAreas * length tree ≤ length nodes → nodeSize * S ≤ length nodes
+  treed-long l = omega (arith, h .valid .area .long)
+
+  pub treed-room : (x : ℕ) → workAreas * length tree ≤ length nodes → x ≡ length nodes → nodeSize * (S + S) ≤ x
+  treed-room x l e = omega (arith, h .valid .area .long)

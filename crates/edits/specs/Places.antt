@@ -3,8 +3,8 @@ use Prim.Native.Nat.{ℕ, suc, _+_, _-_, _≤_, _<_}
 use mathlib.Core.Path.{_≡_, refl, sym, ap, _∙_}
 use mathlib.Core.Logic.{_⊎_, inl, inr, by-cases}
 use mathlib.Core.List.{List, [], _∷_, _++_, append-assoc, append-nil}
-use lib.ListN.{length, take, drop, length-append}
-use lib.Seq.{take-at, drop-at}
+use lib.ListN.{length, take, length-append}
+use lib.Seq.{take-at}
 use native.Mathlib.Decide.{decLe, decLt}
 use native.Mathlib.Omega.{arith}
 use Rattle.grammar.specs.Forest.{Token, Forest, size, yield}
@@ -293,7 +293,7 @@ at-listed {f = f} (Formed.node {s = s} {M = M} {p = p} {k = k} {r = r} e c d) (p
     preorder-size (Forest.leaf s a g r) = ap suc (preorder-size r)
     preorder-size (Forest.node s M p k r) = omega (arith, length-append (preorder k) (preorder r), preorder-size k, preorder-size r)
 
--- of a tree: the leaves among the first a - 1 nodes, and what stands behind those
+-- of a tree: the leaves among the first a - 1 nodes
 pub at-leaves : {ar : ℕ → ℕ} {a q m t : ℕ} {F f : Forest} → Formed ar F → At 1 0 0 0 F a q m t f → t ≡ length (leavesOf (take (a - 1) (preorder F)))
 at-leaves {a = a} {F = F} {f = f} d h =
     let o = at-listed d h in
@@ -301,7 +301,3 @@ at-leaves {a = a} {F = F} {f = f} d h =
     omega (arith, o .token, ap (λ (u : List Node). length (leavesOf u)) e)
 
 -- the list from node a on begins with its subtree and its siblings
-pub at-drop : {ar : ℕ → ℕ} {a q m t : ℕ} {F f : Forest} → Formed ar F → At 1 0 0 0 F a q m t f → (us : List Node) × (drop (a - 1) (preorder F) ≡ preorder f ++ us)
-at-drop {a = a} {F = F} {f = f} d h =
-    let o = at-listed d h in
-    (o .behind, ap (drop (a - 1)) (o .is) ∙ drop-at (o .before) (preorder f ++ o .behind) (a - 1) (omega (arith, o .number)))

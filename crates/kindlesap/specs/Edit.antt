@@ -1,5 +1,5 @@
 -- Meaning: what edit does, for every input; and that it can do nothing else.
-use Prim.Native.Nat.{ℕ, _+_, _*_, _≤_, _<_}
+use Prim.Native.Nat.{ℕ, _≤_}
 use mathlib.Core.Path.{_≡_, refl, ap, sym, _∙_, subst}
 use mathlib.Core.List.{List}
 use lib.ListN.{length}
@@ -9,48 +9,22 @@ use Rattle.base.specs.Choose.{never}
 use Rattle.grammar.specs.Grammar.{Grammar}
 use Rattle.grammar.specs.Prediction.{Prepared}
 use Rattle.grammar.specs.Forest.{Token, Forest, size, yield}
-use Rattle.tables.specs.Tables.{Tables}
 use Rattle.trees.specs.Area.{Area, Valid}
 use Rattle.trees.specs.AreaOne.{area-one}
-use Rattle.plain.specs.Plain.{Verdict, accepted, syntax, noRoom, Parses}
+use Rattle.plain.specs.Plain.{Verdict, accepted, Parses}
 use Rattle.plain.specs.One.{runs-one}
 use Rattle.plain.specs.Exactly.{accepted-exactly}
-use Rattle.plain.specs.Tokens.{Sentence, BadToken, sentence-one, bad-not-sentence, bad-token-one}
+use Rattle.plain.specs.Tokens.{Sentence, sentence-one, bad-not-sentence, bad-token-one}
 use Rattle.edits.specs.Keeping.{Edit, edited, Altered}
 use Rattle.edits.specs.Uniqueness.{altered-one}
 use Rattle.sentences.specs.Forming.{editOf}
 use Rattle.replies.specs.Reply.{replyBytes}
-use Rattle.replies.specs.declared.Counts.{Counts}
 use Rattle.replies.specs.declared.Reply.{Reply}
 use Rattle.replies.specs.declared.Reason.the-variants as reasons
 use Rattle.replies.specs.declared.Reply.the-variants.{Accepted, Refused}
+pub use Rattle.editing.specs.Edits.{editCounts, Edits, wrong-tables, no-tree, short-work, bad-token, beyond, wrong-syntax, no-room, altered}
 use Rattle.kindlesap.specs.Judged.{Opened, One, opened-one}
-use Rattle.kindlesap.specs.Parse.{workAreas}
 use Rattle.kindlesap.specs.ReadBack.{slots-one, trees-one}
-
--- "edit has all four"
-abbrev pub editCounts : ℕ → ℕ → ℕ → ℕ → Counts
-editCounts total kept made up = record { total = total; kept = kept; made = made; «given_up» = up }
-
--- of a grammar that passes replies 2 and 3, where `room` is the length of the work area: replies 4, 5, 6, 7, 8, then 9 or 10 as the plain parse of the new sentence decides, or the new tree is stored
-pub data Edits (tables tokens : List ℕ) (place removed room : ℕ) (tree : List ℕ) (G : Grammar) : Reply → List ℕ → Type 0 where
-  wrong-tables : (Tables G tables → ⊥) → Edits tables tokens place removed room tree G (Refused reasons.WrongTables) tree
-  -- "area length wrong; in edit and read back also no valid tree"
-  no-tree : Tables G tables → ((S : ℕ) → Valid G S tree → ⊥) → Edits tables tokens place removed room tree G (Refused reasons.WrongTree) tree
-  short-work : {S : ℕ} → Tables G tables → Valid G S tree → room < workAreas * length tree
-      → Edits tables tokens place removed room tree G (Refused (reasons.ShortWork (workAreas * length tree))) tree
-  bad-token : {S k : ℕ} → Tables G tables → Valid G S tree → workAreas * length tree ≤ room → BadToken (G .t) tokens k
-      → Edits tables tokens place removed room tree G (Refused (reasons.BadToken k)) tree
-  -- "place plus removed exceeds the old token count"
-  beyond : {S : ℕ} {w : List Token} → Tables G tables → (v : Valid G S tree) → workAreas * length tree ≤ room → Sentence (G .t) tokens w → length (yield (v .tree)) < place + removed
-      → Edits tables tokens place removed room tree G (Refused (reasons.BeyondTokens (length (yield (v .tree))))) tree
-  wrong-syntax : {S i e : ℕ} {w : List Token} → Tables G tables → (v : Valid G S tree) → workAreas * length tree ≤ room → Sentence (G .t) tokens w → place + removed ≤ length (yield (v .tree))
-      → Parses G S (edited (editOf place removed w) (yield (v .tree))) (syntax i e) → Edits tables tokens place removed room tree G (Refused (reasons.Syntax i e)) tree
-  no-room : {S : ℕ} {w : List Token} → Tables G tables → (v : Valid G S tree) → workAreas * length tree ≤ room → Sentence (G .t) tokens w → place + removed ≤ length (yield (v .tree))
-      → Parses G S (edited (editOf place removed w) (yield (v .tree))) noRoom → Edits tables tokens place removed room tree G (Refused reasons.NoRoom) tree
-  altered : {S kept made up : ℕ} {w : List Token} {tree' : List ℕ} (new : Forest) → Tables G tables → (v : Valid G S tree) → workAreas * length tree ≤ room → Sentence (G .t) tokens w
-      → place + removed ≤ length (yield (v .tree)) → Altered G S (editOf place removed w) (v .tree) new kept made up → Area S new tree'
-      → Edits tables tokens place removed room tree G (Accepted (editCounts (size new) kept made up)) tree'
 
 -- the reply, and tree and work after the call: "Parse and edit [..] leave the whole of it zero, whichever reply they give"
 pub record EditOutcome (image tables tree : List ℕ) (place removed : ℕ) (tokens work : List ℕ) (r : Reply) (tree' work' : List ℕ) : Type 0 where
@@ -66,7 +40,7 @@ pub record EditCalled (image tables tree : List ℕ) (place removed : ℕ) (toke
 -- ---- no second outcome
 
 -- an area has one number of tokens
-tokens-one : {G : Grammar} {S S' : ℕ} {b : List ℕ} (u : Valid G S b) (v : Valid G S' b) → length (yield (u .tree)) ≡ length (yield (v .tree))
+pub tokens-one : {G : Grammar} {S S' : ℕ} {b : List ℕ} (u : Valid G S b) (v : Valid G S' b) → length (yield (u .tree)) ≡ length (yield (v .tree))
 tokens-one u v = ap (λ (f : Forest). length (yield f)) (trees-one u v)
 
 -- the plain parse accepts the sentence of the new tree
@@ -74,17 +48,20 @@ pub altered-parses : {G : Grammar} {S : ℕ} {e : Edit} {old new : Forest} {kept
 altered-parses {G} {S} {e} {old} {new} l h =
     accepted-exactly S (edited e (yield old)) (size new) l .1 (record { tree = record { tree = new; derives = h .derives; yields = h .yields }; nodes = refl; fits = h .fits })
 
-module _ {G : Grammar} (g : Prepared G) (place removed : ℕ) {S S' t : ℕ} {tree tokens : List ℕ} {w w' : List Token} (v : Valid G S tree) (v' : Valid G S' tree) (s : Sentence t tokens w)
-    (s' : Sentence t tokens w') where
-  -- the new sentence has one verdict
-  pub verdict-one : {u u' : Verdict} → Parses G S (edited (editOf place removed w) (yield (v .tree))) u → Parses G S' (edited (editOf place removed w') (yield (v' .tree))) u' → u ≡ u'
-  verdict-one h k = runs-one g h (rw (← slots-one v v', ← trees-one v v', ← sentence-one s s') at k)
+module _ {G : Grammar} (place removed : ℕ) {S S' t : ℕ} {tree tokens : List ℕ} {w w' : List Token} (v : Valid G S tree) (v' : Valid G S' tree) (s : Sentence t tokens w) (s' : Sentence t tokens w') where
+  -- there is one new sentence, for one number of slots
+  pub same-parse : {u : Verdict} → Parses G S' (edited (editOf place removed w') (yield (v' .tree))) u → Parses G S (edited (editOf place removed w) (yield (v .tree))) u
+  same-parse h = rw (← slots-one v v', ← trees-one v v', ← sentence-one s s') at h
+
+  -- with one verdict
+  verdict-one : {u u' : Verdict} → Prepared G → Parses G S (edited (editOf place removed w) (yield (v .tree))) u → Parses G S' (edited (editOf place removed w') (yield (v' .tree))) u' → u ≡ u'
+  verdict-one g h k = runs-one g h (same-parse k)
 
   -- and one new tree
-  altered-ones : {new new' : Forest} {kept made up kept' made' up' : ℕ} {b b' : List ℕ} → Altered G S (editOf place removed w) (v .tree) new kept made up
+  altered-ones : {new new' : Forest} {kept made up kept' made' up' : ℕ} {b b' : List ℕ} → Prepared G → Altered G S (editOf place removed w) (v .tree) new kept made up
       → Altered G S' (editOf place removed w') (v' .tree) new' kept' made' up' → Area S new b → Area S' new' b'
       → (Accepted (editCounts (size new) kept made up) ≡ Accepted (editCounts (size new') kept' made' up')) × (b ≡ b')
-  altered-ones {new} {new'} {b = b} {b' = b'} h k a a' =
+  altered-ones {new} {new'} {b = b} {b' = b'} g h k a a' =
       let q = altered-one g (v .derives) h (rw (← slots-one v v', ← trees-one v v', ← sentence-one s s') at k) in
       let c : Area S new' b' = rw (← slots-one v v') at a' in
       (rw (q .0, q .1, q .2, q .3), area-one S new' b b' (subst (λ (f : Forest). Area S f b) (q .0) a) c)
@@ -140,28 +117,28 @@ module _ {G : Grammar} (g : Prepared G) where
       go (wrong-syntax t v l s i p) (bad-token t' v' l' b') = absurd (bad-not-sentence b' s)
       go (wrong-syntax t v l s i p) (beyond t' v' l' s' i') = absurd (omega (arith, i, i', tokens-one v v'))
       go (wrong-syntax {i = x} {e = y} t v l s i p) (wrong-syntax {i = x'} {e = y'} t' v' l' s' i' p') =
-          let z = verdict-one g place removed v v' s s' p p' in
+          let z = verdict-one place removed v v' s s' g p p' in
           let q : x ≡ x' = cc in
           let o : y ≡ y' = cc in
           (rw (q, o), refl)
-      go (wrong-syntax t v l s i p) (no-room t' v' l' s' i' p') = let z = verdict-one g place removed v v' s s' p p' in never (cc)
-      go (wrong-syntax t v l s i p) (altered f' t' v' l' s' i' p' a') = let z = verdict-one g place removed v v' s s' p (altered-parses (v' .some) p') in never (cc)
+      go (wrong-syntax t v l s i p) (no-room t' v' l' s' i' p') = let z = verdict-one place removed v v' s s' g p p' in never (cc)
+      go (wrong-syntax t v l s i p) (altered f' t' v' l' s' i' p' a') = let z = verdict-one place removed v v' s s' g p (altered-parses (v' .some) p') in never (cc)
       go (no-room t v l s i p) (wrong-tables n') = absurd (n' t)
       go (no-room {S = S} t v l s i p) (no-tree t' n') = absurd (n' S v)
       go (no-room t v l s i p) (short-work t' v' l') = absurd (omega (arith, l, l'))
       go (no-room t v l s i p) (bad-token t' v' l' b') = absurd (bad-not-sentence b' s)
       go (no-room t v l s i p) (beyond t' v' l' s' i') = absurd (omega (arith, i, i', tokens-one v v'))
-      go (no-room t v l s i p) (wrong-syntax t' v' l' s' i' p') = let z = verdict-one g place removed v v' s s' p p' in never (cc)
+      go (no-room t v l s i p) (wrong-syntax t' v' l' s' i' p') = let z = verdict-one place removed v v' s s' g p p' in never (cc)
       go (no-room t v l s i p) (no-room t' v' l' s' i' p') = (refl, refl)
-      go (no-room t v l s i p) (altered f' t' v' l' s' i' p' a') = let z = verdict-one g place removed v v' s s' p (altered-parses (v' .some) p') in never (cc)
+      go (no-room t v l s i p) (altered f' t' v' l' s' i' p' a') = let z = verdict-one place removed v v' s s' g p (altered-parses (v' .some) p') in never (cc)
       go (altered f t v l s i p a) (wrong-tables n') = absurd (n' t)
       go (altered {S = S} f t v l s i p a) (no-tree t' n') = absurd (n' S v)
       go (altered f t v l s i p a) (short-work t' v' l') = absurd (omega (arith, l, l'))
       go (altered f t v l s i p a) (bad-token t' v' l' b') = absurd (bad-not-sentence b' s)
       go (altered f t v l s i p a) (beyond t' v' l' s' i') = absurd (omega (arith, i, i', tokens-one v v'))
-      go (altered f t v l s i p a) (wrong-syntax t' v' l' s' i' p') = let z = verdict-one g place removed v v' s s' (altered-parses (v .some) p) p' in never (cc)
-      go (altered f t v l s i p a) (no-room t' v' l' s' i' p') = let z = verdict-one g place removed v v' s s' (altered-parses (v .some) p) p' in never (cc)
-      go (altered f t v l s i p a) (altered f' t' v' l' s' i' p' a') = altered-ones g place removed v v' s s' p p' a a'
+      go (altered f t v l s i p a) (wrong-syntax t' v' l' s' i' p') = let z = verdict-one place removed v v' s s' g (altered-parses (v .some) p) p' in never (cc)
+      go (altered f t v l s i p a) (no-room t' v' l' s' i' p') = let z = verdict-one place removed v v' s s' g (altered-parses (v .some) p) p' in never (cc)
+      go (altered f t v l s i p a) (altered f' t' v' l' s' i' p' a') = altered-ones place removed v v' s s' g p p' a a'
 
 pub edit-one : {image tables tree tokens work tree' tree'' work' work'' : List ℕ} {place removed : ℕ} {r r' : Reply} → EditOutcome image tables tree place removed tokens work r tree' work'
     → EditOutcome image tables tree place removed tokens work r' tree'' work'' → (r ≡ r') × (tree' ≡ tree'') × (work' ≡ work'')

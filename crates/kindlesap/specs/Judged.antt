@@ -23,6 +23,16 @@ pub data Opened (image : List ℕ) (Q : Grammar → Reply → List ℕ → Type 
   bad-image : {k : ℕ} → Bad image k → Opened image Q w (Refused (BadGrammar k)) w
   good-image : {G : Grammar} {r : Reply} {w' : List ℕ} → Image image G → Judged G (Q G) w r w' → Opened image Q w r w'
 
+-- of an image whose grammar passes replies 1 to 3: what Q says
+pub opened-fit : {image : List ℕ} {G : Grammar} {Q : Grammar → Reply → List ℕ → Type 0} {w w' : List ℕ} {r : Reply} → Image image G → Prepared G → Opened image Q w r w' → Q G r w'
+opened-fit i g (bad-image b) = absurd (good-not-bad i b)
+opened-fit {G = G} {Q} {w} {w'} {r} i g (good-image k j) = go (subst (λ (K : Grammar). Judged K (Q K) w r w') (image-one k i) j)
+  where
+    go : {r : Reply} {w' : List ℕ} → Judged G (Q G) w r w' → Q G r w'
+    go (useless {M = M} h) = absurd (g .useful M (h .holds))
+    go (conflict {M = M} n h) = absurd (g .ll1 M (h .holds))
+    go (fit p q) = q
+
 -- ---- no second outcome
 
 -- Q determines reply and buffer

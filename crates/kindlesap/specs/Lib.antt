@@ -8,6 +8,8 @@ pub mod Edit
 pub mod Judging
 pub mod Storing
 pub mod Returning
+pub mod Editing
 -- Across calls.
 pub mod Across
+pub mod Edited
 pub mod RoundTrip

@@ -23,11 +23,8 @@ use Rattle.replies.specs.declared.Counts.{Counts}
 use Rattle.replies.specs.declared.Reply.{Reply}
 use Rattle.replies.specs.declared.Reason.the-variants as reasons
 use Rattle.replies.specs.declared.Reply.the-variants.{Accepted, Refused}
+pub use Rattle.altering.specs.Treed.{workAreas}
 use Rattle.kindlesap.specs.Judged.{Opened, One, opened-one}
-
--- "work shorter than three times the tree area"
-abbrev pub workAreas : ℕ
-workAreas = 3
 
 -- "16+16S bytes, S from 1 to 1,000"
 pub record Sized (S : ℕ) (b : List ℕ) : Type 0 where
@@ -77,7 +74,7 @@ pub record ParseCalled (image tables tokens tree work b tree' work' b' : List �
 
 -- ---- no second outcome
 
-sized-one : {S S' : ℕ} {b : List ℕ} → Sized S b → Sized S' b → S ≡ S'
+pub sized-one : {S S' : ℕ} {b : List ℕ} → Sized S b → Sized S' b → S ≡ S'
 sized-one h k = let e = h .long in let f = k .long in omega arith
 
 module _ {G : Grammar} (g : Prepared G) where

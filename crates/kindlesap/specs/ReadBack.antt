@@ -7,8 +7,8 @@ use native.Mathlib.Omega.{arith}
 use Rattle.base.specs.Blocks.{copied}
 use Rattle.grammar.specs.Grammar.{Grammar}
 use Rattle.grammar.specs.Prediction.{Prepared}
-use Rattle.grammar.specs.Forest.{Token, Forest, size, yield}
-use Rattle.trees.specs.Area.{areaSize, Area, Valid}
+use Rattle.grammar.specs.Forest.{Forest, size, yield}
+use Rattle.trees.specs.Area.{Area, Valid}
 use Rattle.walks.specs.Reading.{valid-one}
 use Rattle.plain.specs.Tokens.{tokenSize, tokenBytes}
 use Rattle.replies.specs.Reply.{replyBytes}

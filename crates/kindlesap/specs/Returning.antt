@@ -1,21 +1,16 @@
 -- The laws that the proof of read back cites.
 use Prim.Native.Nat.{ℕ, _-_, _*_, _≤_, _<_}
-use mathlib.Core.Path.{_≡_, sym, ap, _∙_, subst}
+use mathlib.Core.Path.{_≡_, _∙_, subst}
 use mathlib.Core.List.{List, _++_}
 use lib.ListN.{length, take, drop}
 use lib.Seq.{take-all}
 use native.Mathlib.Omega.{arith}
 use Rattle.base.specs.Bytes.{get16}
-use Rattle.base.specs.Choose.{never}
 use Rattle.grammar.specs.Grammar.{Grammar}
-use Rattle.grammar.specs.Forest.{Token, size, yield}
+use Rattle.grammar.specs.Forest.{Token, yield}
 use Rattle.grammar.specs.Rows.{grammarIn}
-use Rattle.trees.specs.Area.{maxSlots, areaSize, Valid}
-use Rattle.trees.specs.Nodes.{preorder, leavesOf, leaves-yield, derives-formed}
-use Rattle.trees.specs.Coded.{nodesFrom, arityIn}
-use Rattle.walks.specs.Reading.{valid-few, valid-header, size-preorder}
-use Rattle.walks.specs.Closing.{Reads}
-use Rattle.walks.specs.declared.Walked.{Walked}
+use Rattle.trees.specs.Area.{areaSize, Valid}
+use Rattle.walks.specs.Reading.{valid-header}
 use Rattle.plain.specs.Tokens.{tokenSize, tokenBytes}
 use Rattle.sentences.specs.Adding.{Added}
 use Rattle.sentences.specs.Leaves.{leavesFrom, leaves-whole, Gave}

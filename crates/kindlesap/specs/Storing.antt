@@ -8,16 +8,15 @@ use Rattle.grammar.specs.Each.{Each}
 use Rattle.grammar.specs.Grammar.{Grammar}
 use Rattle.grammar.specs.Prediction.{Prepared}
 use Rattle.grammar.specs.Forest.{Forest, size, Derives}
-use Rattle.grammar.specs.Rows.{lengthAt, grammarIn}
-use Rattle.grammar.specs.RowRules.{rule-row}
+use Rattle.grammar.specs.Rows.{grammarIn}
 use Rattle.tables.specs.Tables.{Tables}
 use Rattle.trees.specs.Area.{headerSize, slotSize, maxSlots, areaSize, slots, Distinct, Area}
-use Rattle.trees.specs.Nodes.{Node, preorder, lists-forest, build, Formed, build-preorder, Arity, derives-formed, Fed, fed-preorder, leavesOf, leaves-yield}
+use Rattle.trees.specs.Nodes.{Node, preorder, lists-forest, build, Formed, build-preorder, derives-formed, Fed, fed-preorder, leavesOf, leaves-yield}
 use Rattle.trees.specs.Coded.{nodeSize, nodesFrom, length-nodes, arityIn}
 use Rattle.trees.specs.Spread.{slotsOf, Spread, slots-build, size-build}
 use Rattle.plain.specs.Exactly.{accepted-exactly}
 use Rattle.plain.specs.Tokens.{Sentence, tokensFrom}
-use Rattle.plain.specs.Machine.{Ground, Numbered, Done, length-symbols}
+use Rattle.plain.specs.Machine.{Ground, Numbered, Done}
 use Rattle.plain.specs.Outcome.{Told, Ran, is-wrong, is-full, is-good, is-bad}
 use Rattle.plain.specs.declared.Tokens.{Tokens}
 use Rattle.plain.specs.declared.Parsed.{Parsed}

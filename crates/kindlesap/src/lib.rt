@@ -24,20 +24,13 @@ ghost use Rattle.kindlesap.specs.Judged.{Judged, Opened};
 ghost use Rattle.kindlesap.specs.Judging.{Found};
 ghost use Rattle.kindlesap.specs.Prepare.{Writes, Prepares, Called};
 ghost use Rattle.kindlesap.specs.Parse.{workAreas, Sized, Fits, ParseOutcome, ParseCalled};
+ghost use Rattle.kindlesap.specs.Edit.{EditOutcome, EditCalled};
 ghost use Rattle.kindlesap.specs.ReadBack.{Returns, ReadOutcome, ReadCalled};
 ghost use Rattle.kindlesap.specs.Storing.{Slotted};
 ghost use Rattle.altering.specs.Treed.{Treed};
+ghost use Rattle.editing.specs.Edits.{Edits};
 
-pub const WORK_AREAS: usize = 3;
-
-// Where an area's header has the number of tokens.
-const TOKENS_PLACE: usize = 6;
-
-// What the walk of an area needs: a list of nodes, frames, and a mark for each slot.
-const WALK_SIZE: usize = trees::NODE_SIZE * trees::MAX_SLOTS
-    + walks::FRAME_SIZE * (trees::MAX_SLOTS + 1);
-
-const MARKS_SIZE: usize = trees::MAX_SLOTS + 1;
+pub const WORK_AREAS: usize = editing::WORK_AREAS;
 
 // What replies 2 and 3 say of a grammar.
 pub enum Judgement {
@@ -334,6 +327,166 @@ pub fn parse(image: &[u8], tables: &[u8], tokens: &[u8], tree: &mut [u8], work: 
     r
 }
 
+// Reply 5 by the area's length, and what comes behind it.
+fn edit_area(
+    tables: &[u8],
+    tree: &mut [u8],
+    place: u32,
+    removed: u32,
+    tokens: &[u8],
+    rows: &[u8],
+    t: usize,
+    n: usize,
+    start: usize,
+    count: usize,
+    work: &mut [u8],
+) -> Reply
+    requires { ⌜ Prepared (grammarIn (now rows) t n start count) × Tables (grammarIn (now rows) t n start count) (now tables) ⌝ }
+    ensures { λ r. ⌜ Edits (now (tables .entry)) (now (tokens .entry)) place removed (length (now (work .entry))) (now (tree .entry)) (grammarIn (now (rows .entry)) t n start count) r (now (tree .exit)) ⌝ }
+{
+    let slots = slots_of(tree.len());
+    if slots == 0 {
+        return Reply::Refused(Reason::WrongTree);
+    }
+    editing::edit_tree(
+        tree,
+        slots,
+        place,
+        removed,
+        tokens,
+        tables,
+        rows,
+        t,
+        n,
+        start,
+        count,
+        work,
+    )
+}
+
+// Reply 4, and what comes behind it.
+fn edit_fit(
+    tables: &[u8],
+    tree: &mut [u8],
+    place: u32,
+    removed: u32,
+    tokens: &[u8],
+    rows: &[u8],
+    t: usize,
+    n: usize,
+    start: usize,
+    count: usize,
+    sets: &[u32],
+    cells: &[u8],
+    work: &mut [u8],
+) -> Reply
+    requires { ⌜ Ready (now rows) t n start count (now sets) (now cells) ⌝ }
+    ensures { λ r. ⌜ Edits (now (tables .entry)) (now (tokens .entry)) place removed (length (now (work .entry))) (now (tree .entry)) (grammarIn (now (rows .entry)) t n start count) r (now (tree .exit)) ⌝ }
+{
+    if tables::is_prepared(rows, t, n, start, count, sets, cells, tables) {
+        return edit_area(
+            tables,
+            tree,
+            place,
+            removed,
+            tokens,
+            rows,
+            t,
+            n,
+            start,
+            count,
+            work,
+        );
+    }
+    Reply::Refused(Reason::WrongTables)
+}
+
+// A grammar that was read: replies 2 and 3, and what comes behind them.
+fn edit_read(
+    head: Head,
+    rows: &[u8; grammar::ROWS_SIZE],
+    tables: &[u8],
+    tree: &mut [u8],
+    place: u32,
+    removed: u32,
+    tokens: &[u8],
+    work: &mut [u8],
+) -> Reply
+    requires { ⌜ WellFormed (grammarIn (now rows) (head .t) (head .n) (head .start) (head .count)) × (head .count ≤ maxProductions) ⌝ }
+    ensures { λ r. ⌜ Judged (grammarIn (now (rows .entry)) (head .t) (head .n) (head .start) (head .count)) (Edits (now (tables .entry)) (now (tokens .entry)) place removed (length (now (work .entry))) (now (tree .entry)) (grammarIn (now (rows .entry)) (head .t) (head .n) (head .start) (head .count))) (now (tree .entry)) r (now (tree .exit)) ⌝ }
+{
+    let t = head.t;
+    let n = head.n;
+    let start = head.start;
+    let count = head.count;
+    let mut sets = [0u32; sets::SETS_SIZE];
+    let mut cells = [0u8; tables::PREDICTIONS_SIZE];
+    match judge(rows, t, n, start, count, &mut sets, &mut cells) {
+        Judgement::Useless(symbol) => Reply::Refused(Reason::UselessSymbol(symbol as u64)),
+        Judgement::Conflict(symbol) => Reply::Refused(Reason::NotLl1(symbol as u64)),
+        Judgement::Fit => edit_fit(
+            tables,
+            tree,
+            place,
+            removed,
+            tokens,
+            rows,
+            t,
+            n,
+            start,
+            count,
+            &sets,
+            &cells,
+            work,
+        ),
+    }
+}
+
+// Replies 1 to 10, or the new tree.
+fn edit_image(
+    image: &[u8],
+    tables: &[u8],
+    tree: &mut [u8],
+    place: u32,
+    removed: u32,
+    tokens: &[u8],
+    work: &mut [u8],
+) -> Reply
+    ensures { λ r. ⌜ Opened (now (image .entry)) (Edits (now (tables .entry)) (now (tokens .entry)) place removed (length (now (work .entry))) (now (tree .entry))) (now (tree .entry)) r (now (tree .exit)) ⌝ }
+{
+    let mut rows = [0u8; grammar::ROWS_SIZE];
+    match grammar::read_grammar(image, &mut rows) {
+        GrammarRead::Good(head) => edit_read(
+            head,
+            &rows,
+            tables,
+            tree,
+            place,
+            removed,
+            tokens,
+            work,
+        ),
+        GrammarRead::Bad(offset) => Reply::Refused(Reason::BadGrammar(offset as u64)),
+    }
+}
+
+// Replaces a run of a tree's tokens, from a place on, by others.
+pub fn edit(
+    image: &[u8],
+    tables: &[u8],
+    tree: &mut [u8],
+    place: u32,
+    removed: u32,
+    tokens: &[u8],
+    work: &mut [u8],
+) -> Reply
+    ensures { λ r. ⌜ EditOutcome (now (image .entry)) (now (tables .entry)) (now (tree .entry)) place removed (now (tokens .entry)) (now (work .entry)) r (now (tree .exit)) (now (work .exit)) ⌝ }
+{
+    let r = edit_image(image, tables, tree, place, removed, tokens, work);
+    base::zero(work);
+    r
+}
+
 // Reply 11, or the tokens of the tree whose o nodes are listed.
 fn give_back(
     rows: &[u8],
@@ -350,7 +503,7 @@ fn give_back(
     requires { ⌜ Treed (grammarIn (now rows) t n start count) slots (now tree) (now nodes) o ⌝ }
     ensures { λ r. ⌜ Returns (now (tree .entry)) (now (output .entry)) (grammarIn (now (rows .entry)) t n start count) r (now (output .exit)) ⌝ }
 {
-    let tokens = base::get16(tree, TOKENS_PLACE);
+    let tokens = base::get16(tree, editing::TOKENS_PLACE);
     let need = plain::TOKEN_SIZE * tokens;
     if output.len() < need {
         return Reply::Refused(Reason::ShortOutput(need as u64));
@@ -380,8 +533,8 @@ fn read_fit(
     if slots == 0 {
         return Reply::Refused(Reason::WrongTree);
     }
-    let mut work = [0u8; WALK_SIZE];
-    let mut marks = [0u8; MARKS_SIZE];
+    let mut work = [0u8; editing::WALK_SIZE];
+    let mut marks = [0u8; editing::MARKS_SIZE];
     match walks::read_tree(tree, slots, rows, t, n, start, count, &mut work, &mut marks) {
         Walked::Tree(o) => give_back(rows, t, n, start, count, slots, tree, &work, o, output),
         Walked::NoTree => Reply::Refused(Reason::WrongTree),
@@ -437,6 +590,23 @@ pub extern "C" fn kindlesap_parse(
     ensures { λ _. ⌜ ParseCalled (now (grammar .entry)) (now (tables .entry)) (now (tokens .entry)) (now (tree .entry)) (now (work .entry)) (now (reply .entry)) (now (tree .exit)) (now (work .exit)) (now (reply .exit)) ⌝ }
 {
     let r = parse(grammar, tables, tokens, tree, work);
+    replies::write_reply(r, reply);
+}
+
+#[no_mangle]
+pub extern "C" fn kindlesap_edit(
+    grammar: &[u8],
+    tables: &[u8],
+    tree: &mut [u8],
+    place: u32,
+    removed: u32,
+    tokens: &[u8],
+    work: &mut [u8],
+    reply: &mut [u8],
+)
+    ensures { λ _. ⌜ EditCalled (now (grammar .entry)) (now (tables .entry)) (now (tree .entry)) place removed (now (tokens .entry)) (now (work .entry)) (now (reply .entry)) (now (tree .exit)) (now (work .exit)) (now (reply .exit)) ⌝ }
+{
+    let r = edit(grammar, tables, tree, place, removed, tokens, work);
     replies::write_reply(r, reply);
 }
 

@@ -2,13 +2,12 @@
 use Prim.Native.Nat.{ℕ, zero, suc, _+_, _-_, _≤_, _<_}
 use mathlib.Core.Path.{_≡_, refl, sym, ap, _∙_}
 use mathlib.Core.Logic.{by-cases}
-use mathlib.Core.List.{List, [], _∷_, _++_}
+use mathlib.Core.List.{List, _∷_}
 use lib.ListN.{length, getD, set, take}
 use lib.Seq.{take-all, getD-set-same, getD-set-other}
 use native.Mathlib.Decide.{ℕ-discrete, decLt}
 use native.Mathlib.Omega.{arith}
-use Rattle.base.specs.Choose.{never}
-use Rattle.grammar.specs.Forest.{Forest, size, yield}
+use Rattle.grammar.specs.Forest.{Forest, yield}
 use Rattle.trees.specs.Nodes.{Node as Entry, leavesOf, leaves-yield}
 use Rattle.trees.specs.Coded.{nodeAt, nodesFrom, length-nodes}
 use Rattle.edits.specs.Keeping.{Edit, Kept, Node}
@@ -159,9 +158,6 @@ pub data Found (w widths : List ℕ) (lo hi x : ℕ) : ℕ → Type 0 where
 -- there is none before j
 pub record Sought (w widths : List ℕ) (lo j x : ℕ) : Type 0 where
   pub absent : (y : ℕ) → lo ≤ y → y < j → nodeAt w y .symbol ≡ x → (getD widths y 0 ≡ 0 → ⊥) → ⊥
-
-pub sought-none : (w widths : List ℕ) (lo x : ℕ) → Sought w widths lo lo x
-sought-none w widths lo x = record { absent = λ y a b. absurd (omega arith) }
 
 sought-more : (w widths : List ℕ) (lo j x : ℕ) → (nodeAt w j .symbol ≡ x → (getD widths j 0 ≡ 0 → ⊥) → ⊥) → Sought w widths lo j x → Sought w widths lo (j + 1) x
 sought-more w widths lo j x n h =

@@ -1,6 +1,6 @@
 -- The children of a node by their indices, and by their numbers in the tree.
 use Prim.Native.Nat.{ℕ, zero, suc, _+_, _-_, _≤_, _<_}
-use mathlib.Core.Path.{_≡_, refl, sym, ap, _∙_}
+use mathlib.Core.Path.{_≡_, refl, ap, _∙_}
 use mathlib.Core.Logic.{_⊎_, inl, inr}
 use mathlib.Core.List.{List}
 use lib.ListN.{getD}
@@ -8,7 +8,7 @@ use native.Mathlib.Omega.{arith}
 use Rattle.grammar.specs.Forest.{Forest, size}
 use Rattle.trees.specs.Nodes.{trees, back}
 use Rattle.edits.specs.Keeping.{own, below, beside, Node}
-use Rattle.edits.specs.Places.{treeSize, at-number, at-some, at-one, at-child, Side, Parent, at-up}
+use Rattle.edits.specs.Places.{at-some, at-one, at-child, Side, Parent, at-up}
 use Rattle.matching.specs.Measure.{Measured, some-trees, no-trees, Passing, pass-start, pass-here, pass-width, pass-next}
 use Rattle.matching.specs.Handing.{kid}
 
@@ -51,9 +51,6 @@ module _ {F : Forest} {base i q n t : ℕ} {f : Forest} {ends widths : List ℕ}
     -- child x
     pub kid-node : Node F (suc (kid ends z x) - base) (suc i) x (passing .next) (back x (below f))
     kid-node = pass-here passing there
-
-    pub kid-low : z < kid ends z x
-    kid-low = omega (arith, passing .low, at)
 
     pub kid-width : getD widths (kid ends z x) 0 ≡ own (back x (below f))
     kid-width = pass-width passing there further

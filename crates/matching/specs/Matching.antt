@@ -7,14 +7,14 @@ use lib.ListN.{length, getD, set}
 use lib.Seq.{getD-set-same, getD-set-other}
 use native.Mathlib.Decide.{ℕ-discrete, decLt}
 use native.Mathlib.Omega.{arith}
-use Rattle.grammar.specs.Forest.{Forest, size, yield}
+use Rattle.grammar.specs.Forest.{Forest}
 use Rattle.trees.specs.Nodes.{trees, back}
 use Rattle.trees.specs.Coded.{nodeAt}
 use Rattle.edits.specs.Keeping.{Edit, symbol, own, below, Node, Keeps}
-use Rattle.edits.specs.Places.{at-number, at-token, at-below-parent, at-one, at-child, Numbered, at-node}
+use Rattle.edits.specs.Places.{at-number, at-token, at-below-parent, at-one, Numbered, at-node}
 use Rattle.matching.specs.Measure.{treeIn, Built, built-size, Measured, stands}
-use Rattle.matching.specs.Finding.{leavesTo, first-token, all-tokens, Started, Was, Numbers, kept-was, was-kept, Sourced}
-use Rattle.matching.specs.Handing.{kid, Handed, Handing, HandedAll}
+use Rattle.matching.specs.Finding.{leavesTo, first-token, all-tokens, Started, Numbers, kept-was, was-kept, Sourced}
+use Rattle.matching.specs.Handing.{kid, HandedAll}
 use Rattle.matching.specs.Kids.{kid-node, kid-width, kid-reach, kid-is, kid-parent, kid-at, kid-few, child-few}
 
 -- the number of the old node whose slot node a' keeps, or 0

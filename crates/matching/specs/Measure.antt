@@ -4,7 +4,7 @@ use mathlib.Core.Path.{_≡_, refl, sym, ap, _∙_}
 use mathlib.Core.Logic.{by-cases}
 use mathlib.Core.List.{List, [], _∷_, _++_}
 use lib.ListN.{length, getD, set, length-append, length-set}
-use lib.Seq.{getD-append-seam, getD-set-same, getD-set-other}
+use lib.Seq.{getD-set-same, getD-set-other}
 use native.Mathlib.Decide.{ℕ-discrete}
 use native.Mathlib.Omega.{arith}
 use Rattle.base.specs.Choose.{never}
@@ -13,6 +13,7 @@ use Rattle.grammar.specs.Forest.{Forest, size, yield}
 use Rattle.trees.specs.Nodes.{Node as Entry, preorder, trees, build, Formed}
 use Rattle.trees.specs.Coded.{nodeAt, nodesFrom, length-nodes, arityIn}
 use Rattle.trees.specs.Spread.{size-build}
+use Rattle.trees.specs.Area.{top}
 use Rattle.edits.specs.Keeping.{symbol, own, production, below, beside, At, Node}
 use Rattle.edits.specs.Places.{treeSize, at-number, at-some, at-one, Numbered, at-node, at-first, at-next, Listed, at-listed}
 
@@ -53,6 +54,7 @@ module _ (rows w : List ℕ) (n base : ℕ) (b : Built rows w n base) where
 
   -- node number a stands at index y
   pub record Stands (a y : ℕ) (f : Forest) : Type 0 where
+    pub slot-is : nodeAt w y .slot ≡ top f
     pub symbol-is : nodeAt w y .symbol ≡ symbol f
     pub production-is : nodeAt w y .production ≡ production f
     pub leaf : production f ≡ 0 → (treeSize f ≡ 1) × (own f ≡ 1)
@@ -68,6 +70,7 @@ module _ (rows w : List ℕ) (n base : ℕ) (b : Built rows w n base) where
           entry-at w n base (o .before) (record { slot = s; symbol = x; production = 0; tag = g }) (preorder r ++ o .behind) (sym (b .listed) ∙ o .is) in
           let k : y ≡ base + length (o .before) = omega (arith, o .number, e) in
           record {
+            slot-is = ap (λ (u : ℕ). nodeAt w u .slot) k ∙ ap (λ (u : Entry). u .slot) z;
             symbol-is = ap (λ (u : ℕ). nodeAt w u .symbol) k ∙ ap (λ (u : Entry). u .symbol) z;
             production-is = ap (λ (u : ℕ). nodeAt w u .production) k ∙ ap (λ (u : Entry). u .production) z;
             leaf = λ _. (refl, refl);
@@ -79,6 +82,7 @@ module _ (rows w : List ℕ) (n base : ℕ) (b : Built rows w n base) where
           let z : nodeAt w (base + length (o .before)) ≡ u = entry-at w n base (o .before) u (vs ++ o .behind) (sym (b .listed) ∙ o .is) in
           let k : y ≡ base + length (o .before) = omega (arith, o .number, e) in
           record {
+            slot-is = ap (λ (x : ℕ). nodeAt w x .slot) k ∙ ap (λ (x : Entry). x .slot) z;
             symbol-is = ap (λ (x : ℕ). nodeAt w x .symbol) k ∙ ap (λ (x : Entry). x .symbol) z;
             production-is = ap (λ (x : ℕ). nodeAt w x .production) k ∙ ap (λ (x : Entry). x .production) z;
             leaf = λ x. absurd (omega arith);
@@ -131,7 +135,7 @@ at-within (At.inside h) = omega (arith, at-within h)
 at-within (At.past-leaf h) = omega (arith, at-within h)
 at-within (At.past-node h) = omega (arith, at-within h)
 
-few-tokens : (f : Forest) → length (yield f) ≤ size f
+pub few-tokens : (f : Forest) → length (yield f) ≤ size f
 few-tokens Forest.nil = omega arith
 few-tokens (Forest.leaf s x g r) = omega (arith, few-tokens r)
 few-tokens (Forest.node s M p k r) = omega (arith, few-tokens k, few-tokens r, length-append (yield k) (yield r))

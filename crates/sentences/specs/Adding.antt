@@ -20,7 +20,7 @@ unfolding leBytes
 length-token-bytes [] = refl
 length-token-bytes (k ∷ w) = omega (arith, length-token-bytes w)
 
-token-bytes-append : (u v : List Token) → tokenBytes (u ++ v) ≡ tokenBytes u ++ tokenBytes v
+pub token-bytes-append : (u v : List Token) → tokenBytes (u ++ v) ≡ tokenBytes u ++ tokenBytes v
 token-bytes-append [] v = refl
 token-bytes-append (k ∷ u) v =
     ap (λ (x : List ℕ). k .kind ∷ x) (ap (λ (x : List ℕ). leBytes 4 (k .tag) ++ x) (token-bytes-append u v) ∙ sym (append-assoc (leBytes 4 (k .tag)) (tokenBytes u) (tokenBytes v)))

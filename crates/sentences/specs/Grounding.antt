@@ -27,18 +27,18 @@ use Rattle.sentences.specs.Forming.{editOf, NewSentence}
 -- ---- good tokens
 
 -- a token of kind 1..t with a 32-bit tag
-abbrev Good : ℕ → Token → Type 0
+abbrev pub Good : ℕ → Token → Type 0
 Good t k = TerminalOf t (k .kind) × Tagged k
 
-good-of : {t : ℕ} (w : List Token) → Each (TerminalOf t) (kinds w) → Each Tagged w → Each (Good t) w
+pub good-of : {t : ℕ} (w : List Token) → Each (TerminalOf t) (kinds w) → Each Tagged w → Each (Good t) w
 good-of [] a b = Each.nil
 good-of (k ∷ w) (Each.cons x a) (Each.cons y b) = Each.cons (x, y) (good-of w a b)
 
-good-kinds : {t : ℕ} (w : List Token) → Each (Good t) w → Each (TerminalOf t) (kinds w)
+pub good-kinds : {t : ℕ} (w : List Token) → Each (Good t) w → Each (TerminalOf t) (kinds w)
 good-kinds [] a = Each.nil
 good-kinds (k ∷ w) (Each.cons x a) = Each.cons (x .0) (good-kinds w a)
 
-good-tags : {t : ℕ} (w : List Token) → Each (Good t) w → Each Tagged w
+pub good-tags : {t : ℕ} (w : List Token) → Each (Good t) w → Each Tagged w
 good-tags [] a = Each.nil
 good-tags (k ∷ w) (Each.cons x a) = Each.cons (x .1) (good-tags w a)
 

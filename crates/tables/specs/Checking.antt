@@ -1,4 +1,4 @@
--- Bytes held against the break points, row by row: each row is written once more by itself and compared.
+-- Bytes held against the break points that they imply, row by row: each row is written by itself and compared.
 use Prim.Native.Nat.{ℕ, _+_, _-_, _*_, _/_, _%_, _≤_, _<_}
 use mathlib.Core.Path.{_≡_, sym, ap, _∙_}
 use mathlib.Core.Bool.{Bool, false}
@@ -13,7 +13,9 @@ use Rattle.base.specs.Blocks.{zeros, byte-zeros, length-zeros, part-tail}
 use Rattle.grammar.specs.Limits.{columns}
 use Rattle.tables.specs.Tables.{tableRows, rowSize, predictionsSize, breaksSize, tablesSize, breakPlace}
 use Rattle.tables.specs.Grid.{Grid, grid-at}
-use Rattle.tables.specs.Writing.{Broken, Laid}
+use Rattle.tables.specs.Cells.{impliedOf}
+use Rattle.tables.specs.Live.{Quiet}
+use Rattle.tables.specs.Writing.{Broken, Laid, implied-none}
 
 -- a row that is 0 but where entries may stand
 pub record Blank (n c : ℕ) (row : List ℕ) : Type 0 where
@@ -34,6 +36,13 @@ blank-more n c g row row' lc h u =
       long = u .long ∙ h .long;
       other = λ Q a x y k. u .kept (Q * columns + a) (λ Q' a' x' y' e. k (omega arith) (omega arith)) ∙ h .other Q a x y k;
     }
+
+-- where there is no step, the row is 0 throughout
+pub quiet-zeros : (steps : List ℕ) (n c : ℕ) (row : List ℕ) (m : ℕ) → row ≡ zeros m → Quiet steps n c row
+quiet-zeros steps n c row m e = record { dark = λ Q a x y z. ap (λ (u : List ℕ). getD u (Q * columns + a) 0) e ∙ byte-zeros m (Q * columns + a) }
+
+pub quiet-more : (s steps : List ℕ) (t : ℕ) (w : List ℕ) (r n c : ℕ) (row row' : List ℕ) → Grid (impliedOf s steps t w r) 0 c n n 0 row row' → Quiet steps n c row'
+quiet-more s steps t w r n c row row' u = record { dark = λ Q a x y z. grid-at u Q a x y ∙ sym (implied-none s steps t w r (Q * columns + a) z) }
 
 module _ (f : ℕ → ℕ → ℕ) (n c : ℕ) where
   pub held-none : (w : List ℕ) → Held f n c 0 w
@@ -118,11 +127,13 @@ module _ (f : ℕ → ℕ → ℕ) (n c : ℕ) where
 -- ---- both parts
 
 -- as `&w[1024..]` and `&w[0..1024]` are to the checker
-pub laid-told : (cells : List ℕ) (f : ℕ → ℕ → ℕ) (n c : ℕ) (w : List ℕ) (b : Bool) → length w ≡ tablesSize
-    → take (predictionsSize - 0) (drop 0 w) ≡ cells → Tells (Broken f n c n (take (length w - predictionsSize) (drop predictionsSize w))) b → Tells (Laid cells f n c w) b
-laid-told cells f n c w b long e u =
+pub laid-told : (cells : List ℕ) (s steps : List ℕ) (t n c : ℕ) (w : List ℕ) (b : Bool) → length w ≡ tablesSize
+    → take (predictionsSize - 0) (drop 0 w) ≡ cells
+    → Tells (Broken (impliedOf s steps t (take (length w - predictionsSize) (drop predictionsSize w))) n c n (take (length w - predictionsSize) (drop predictionsSize w))) b
+    → Tells (Laid cells (impliedOf s steps t (drop predictionsSize w)) n c w) b
+laid-told cells s steps t n c w b long e u =
     let q : take (length w - predictionsSize) (drop predictionsSize w) ≡ drop predictionsSize w = part-tail w predictionsSize in
-    let v : Tells (Broken f n c n (drop predictionsSize w)) b = rw q at u in
+    let v : Tells (Broken (impliedOf s steps t (drop predictionsSize w)) n c n (drop predictionsSize w)) b = rw q at u in
     record {
       yes = λ z. record {
         long = long;

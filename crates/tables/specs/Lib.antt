@@ -5,7 +5,9 @@ pub mod One
 pub mod Cells
 pub mod Short
 pub mod Points
+pub mod Implied
 pub mod Grid
+pub mod Live
 pub mod Writing
 pub mod Checking
 pub mod Outcome

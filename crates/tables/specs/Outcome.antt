@@ -5,7 +5,7 @@ use mathlib.Core.Bool.{Bool, false}
 use mathlib.Core.Logic.{by-cases}
 use native.Mathlib.Decide.{decLt}
 use mathlib.Core.List.{List}
-use lib.ListN.{length, getD, length-drop}
+use lib.ListN.{length, getD, drop, length-drop}
 use lib.Seq.{getD-drop}
 use native.Mathlib.Omega.{arith}
 use Rattle.base.specs.Tells.{Tells, tells-no}
@@ -17,8 +17,9 @@ use Rattle.sets.specs.Known.{Known}
 use Rattle.predictions.specs.Listing.{Cell, empty, full, Listed}
 use Rattle.predictions.specs.Verdict.{predicts-hit, hit-predicts}
 use Rattle.tables.specs.Tables.{predictionsSize, tablesSize, breakPlace, predictionPlace, Prediction, some, none, Tables}
-use Rattle.tables.specs.Cells.{stepOf, maskOf, entryOf}
+use Rattle.tables.specs.Cells.{stepOf, maskOf, entryOf, impliedOf}
 use Rattle.tables.specs.Points.{point}
+use Rattle.tables.specs.Implied.{told-break, right-told}
 use Rattle.tables.specs.One.{prediction-one, break-one}
 use Rattle.tables.specs.Grid.{Grid, grid-at}
 use Rattle.tables.specs.Writing.{Laid}
@@ -46,58 +47,82 @@ module _ (rows : List ℕ) (t n start count : ℕ) (s cells : List ℕ) (ready :
   unfolding grammarIn
   beyond M N a l = not-first (λ h. omega (arith, h .0 .1))
 
-  module _ (st₀ steps m₀ masks : List ℕ) (fs : Grid (stepOf rows s cells t) 0 (t + 1) n n 0 st₀ steps) (fm : Grid (maskOf steps t) 0 (t + 1) n n 0 m₀ masks) where
-    break-at : (R Q a : ℕ) → R < n → Q < n → a < t + 1 → Break G (t + 1 + R) (t + 1 + Q) a (entryOf s steps masks t R (Q * columns + a))
-    unfolding entryOf maskOf
-    break-at R Q a x y l =
-        let few = ready-few in
-        let i : ℕ = Q * columns + a in
-        let zq : i / columns ≡ Q = omega (arith, few .0) in
-        let za : i % columns ≡ a = omega (arith, few .0) in
-        let e : getD masks i 0 ≡ maskOf steps t i = grid-at fm Q a y l in
-        let p = point rows t n start count s (ready .known) (ready .prepared) cells (ready .listed) steps (grid-at fs)
-        (t + 1 + R) (t + 1 + i / columns) (i % columns) (getD masks i 0) (omega (arith, few .0, few .1)) (omega (arith, few .0, few .1)) (omega arith) e
-        in
-        rw (zq, za) (rw (zq, za) at p)
+  module _ (f : ℕ → ℕ → ℕ) (w : List ℕ) where
+    laid-tables : ((R Q a : ℕ) → R < n → Q < n → a < t + 1 → Break G (t + 1 + R) (t + 1 + Q) a (f R (Q * columns + a))) → Laid cells f n (t + 1) w
+        → Tables (grammarIn rows t n start count) w
+    unfolding grammarIn
+    laid-tables right laid =
+        record {
+          size = laid .long;
+          prediction = λ R a x y. rw (laid .front (predictionPlace R a) (omega arith)) (cell-prediction (ready .listed .cell R a x y));
+          break = λ R Q a x y z. rw (← getD-drop predictionsSize w (breakPlace R Q a) 0)
+              (by-cases (decLt a (t + 1)) (λ l. rw (laid .back .done R Q a x y l) (right R Q a x y l))
+              (λ l. rw (laid .back .other R Q a (omega (arith, ready-few .1)) (omega (arith, ready-few .1)) z (λ _ _. l)) (beyond (t + 1 + R) (t + 1 + Q) a (omega arith))));
+          other = λ R Q a x y z h. sym (getD-drop predictionsSize w (breakPlace R Q a) 0) ∙ laid .back .other R Q a x y z (λ i j _. h i j);
+        }
+
+    tables-laid : ((R Q a : ℕ) → R < n → Q < n → a < t + 1 → getD (drop predictionsSize w) (breakPlace R Q a) 0 ≡ f R (Q * columns + a)) → Tables (grammarIn rows t n start count) w
+        → Laid cells f n (t + 1) w
+    unfolding grammarIn
+    tables-laid is h =
+        record {
+          long = h .size;
+          front = λ i l.
+              let q : predictionPlace (i / columns) (i % columns) ≡ i = omega arith in
+              rw q at (prediction-one (ready .prepared) (h .prediction (i / columns) (i % columns) (omega arith) (omega arith))
+              (cell-prediction (ready .listed .cell (i / columns) (i % columns) (omega arith) (omega arith))));
+          back = record {
+            long = length-drop predictionsSize w ∙ omega (arith, h .size);
+            done = is;
+            other = λ R Q a x y z g. getD-drop predictionsSize w (breakPlace R Q a) 0
+                ∙ by-cases (decLt R n)
+                (λ i. by-cases (decLt Q n)
+                (λ j. break-one (ready .prepared) (h .break R Q a i j z) (beyond (t + 1 + R) (t + 1 + Q) a (omega (arith, g i j))))
+                (λ j. h .other R Q a x y z (λ _ k. j k)))
+                (λ i. h .other R Q a x y z (λ k _. i k));
+          };
+        }
+
+  module _ (st₀ steps : List ℕ) (fs : Grid (stepOf rows s cells t) 0 (t + 1) n n 0 st₀ steps) where
+    module _ (m₀ masks : List ℕ) (fm : Grid (maskOf steps t) 0 (t + 1) n n 0 m₀ masks) where
+      break-at : (R Q a : ℕ) → R < n → Q < n → a < t + 1 → Break G (t + 1 + R) (t + 1 + Q) a (entryOf s steps masks t R (Q * columns + a))
+      unfolding entryOf maskOf
+      break-at R Q a x y l =
+          let few = ready-few in
+          let i : ℕ = Q * columns + a in
+          let zq : i / columns ≡ Q = omega (arith, few .0) in
+          let za : i % columns ≡ a = omega (arith, few .0) in
+          let e : getD masks i 0 ≡ maskOf steps t i = grid-at fm Q a y l in
+          let p = point rows t n start count s (ready .known) (ready .prepared) cells (ready .listed) steps (grid-at fs)
+          (t + 1 + R) (t + 1 + i / columns) (i % columns) (getD masks i 0) (omega (arith, few .0, few .1)) (omega (arith, few .0, few .1)) (omega arith) e
+          in
+          rw (zq, za) (rw (zq, za) at p)
+
+      pub tables-from : (w : List ℕ) → Laid cells (entryOf s steps masks t) n (t + 1) w → Tables (grammarIn rows t n start count) w
+      tables-from w laid = laid-tables (entryOf s steps masks t) w break-at laid
 
     module _ (w : List ℕ) where
-      pub tables-from : Laid cells (entryOf s steps masks t) n (t + 1) w → Tables (grammarIn rows t n start count) w
-      unfolding grammarIn
-      tables-from laid =
-          record {
-            size = laid .long;
-            prediction = λ R a x y. rw (laid .front (predictionPlace R a) (omega arith)) (cell-prediction (ready .listed .cell R a x y));
-            break = λ R Q a x y z. rw (← getD-drop predictionsSize w (breakPlace R Q a) 0)
-                (by-cases (decLt a (t + 1)) (λ l. rw (laid .back .done R Q a x y l) (break-at R Q a x y l))
-                (λ l. rw (laid .back .other R Q a (omega (arith, ready-few .1)) (omega (arith, ready-few .1)) z (λ _ _. l)) (beyond (t + 1 + R) (t + 1 + Q) a (omega arith))));
-            other = λ R Q a x y z h. sym (getD-drop predictionsSize w (breakPlace R Q a) 0) ∙ laid .back .other R Q a x y z (λ i j _. h i j);
-          }
+      abbrev b : List ℕ
+      b = drop predictionsSize w
 
-      -- the tables are laid so, and so only
-      pub laid-from : Tables (grammarIn rows t n start count) w → Laid cells (entryOf s steps masks t) n (t + 1) w
-      unfolding grammarIn
-      laid-from h =
-          record {
-            long = h .size;
-            front = λ i l.
-                let q : predictionPlace (i / columns) (i % columns) ≡ i = omega arith in
-                rw q at (prediction-one (ready .prepared) (h .prediction (i / columns) (i % columns) (omega arith) (omega arith))
-                (cell-prediction (ready .listed .cell (i / columns) (i % columns) (omega arith) (omega arith))));
-            back = record {
-              long = length-drop predictionsSize w ∙ omega (arith, h .size);
-              done = λ R Q a x y z. getD-drop predictionsSize w (breakPlace R Q a) 0
-                  ∙ break-one (ready .prepared) (h .break R Q a x y (omega (arith, ready-few .0))) (break-at R Q a x y z);
-              other = λ R Q a x y z g. getD-drop predictionsSize w (breakPlace R Q a) 0
-                  ∙ by-cases (decLt R n)
-                  (λ i. by-cases (decLt Q n)
-                  (λ j. break-one (ready .prepared) (h .break R Q a i j z) (beyond (t + 1 + R) (t + 1 + Q) a (omega (arith, g i j))))
-                  (λ j. h .other R Q a x y z (λ _ k. j k)))
-                  (λ i. h .other R Q a x y z (λ k _. i k));
-            };
-          }
+      implied-right : Laid cells (impliedOf s steps t b) n (t + 1) w → (R Q a : ℕ) → R < n → Q < n → a < t + 1 → Break G (t + 1 + R) (t + 1 + Q) a (impliedOf s steps t b R (Q * columns + a))
+      implied-right laid R Q a x y l =
+          rw (laid .back .done R Q a x y l) at
+          (told-break rows t n start count s (ready .known) (ready .prepared) cells (ready .listed) steps (grid-at fs) b a l (λ R' Q' x' y'. laid .back .done R' Q' a x' y' l) R Q x y)
 
-      pub told-tables : (r : Bool) → Tells (Laid cells (entryOf s steps masks t) n (t + 1) w) r → Tells (Tables (grammarIn rows t n start count) w) r
-      told-tables r u = record { yes = λ e. tables-from (u .yes e); no = λ e h. u .no e (laid-from h) }
+      right-implied : Tables (grammarIn rows t n start count) w → (R Q a : ℕ) → R < n → Q < n → a < t + 1 → getD b (breakPlace R Q a) 0 ≡ impliedOf s steps t b R (Q * columns + a)
+      unfolding grammarIn
+      right-implied h R Q a x y l =
+          right-told rows t n start count s (ready .known) (ready .prepared) cells (ready .listed) steps (grid-at fs) b a l
+          (λ R' Q' x' y'. rw (getD-drop predictionsSize w (breakPlace R' Q' a) 0) (h .break R' Q' a x' y' (omega (arith, ready-few .0)))) R Q x y
+
+      -- the tables are the bytes that are laid so and imply themselves
+      pub told-tables : (r : Bool) → Tells (Laid cells (impliedOf s steps t (drop predictionsSize w)) n (t + 1) w) r → Tells (Tables (grammarIn rows t n start count) w) r
+      told-tables r u =
+          record {
+            yes = λ e. laid-tables (impliedOf s steps t b) w (implied-right (u .yes e)) (u .yes e);
+            no = λ e h. u .no e (tables-laid (impliedOf s steps t b) w (right-implied h) h);
+          }
 
 -- bytes of another length are no tables
 pub told-longer : (G : Grammar) (w : List ℕ) → (length w ≡ tablesSize → ⊥) → Tells (Tables G w) false

@@ -27,7 +27,7 @@ use Rattle.predictions.specs.Paths.{Chosen, by-begin, Path, p-end, p-down, path
 use Rattle.predictions.specs.Stems.{single, path-stem, reach}
 use Rattle.predictions.specs.Listing.{Cell, empty, full, Listed}
 use Rattle.predictions.specs.Verdict.{predicts-hit}
-use Rattle.tables.specs.Cells.{lead, stepOf, next, stemBits, sharedFrom, pointOf}
+use Rattle.tables.specs.Cells.{lead, stepOf, next, stemBits, sharedFrom, behindOf, pointOf}
 use Rattle.tables.specs.Short.{short}
 
 begin-cons : {G : Grammar} {a x : ℕ} {xs : List ℕ} → (Begin G a (x ∷ []) → ⊥) → Begin G a (x ∷ xs) → Vanish G (x ∷ []) × Begin G a xs
@@ -62,20 +62,29 @@ module _ (rows : List ℕ) (t n start count : ℕ) (s : List ℕ) (known : Known
   rule-small : (p M : ℕ) (γ : List ℕ) → Rule G p M γ → M < symbolSpace
   rule-small p M γ r = let q = rule-row rows t n start count r in rw (q .left) (left-small rows (q .row))
 
-  terminal-of : {a : ℕ} → Terminal G a → (0 < a) × (a ≤ t)
+  pub terminal-of : {a : ℕ} → Terminal G a → (0 < a) × (a ≤ t)
   unfolding grammarIn
   terminal-of w = (omega (arith, w .0), w .1)
 
   -- a rule's left side has a row
-  row-of : {p M : ℕ} {γ : List ℕ} → Rule G p M γ → (t < M) × (M ≤ t + n)
+  pub row-of : {p M : ℕ} {γ : List ℕ} → Rule G p M γ → (t < M) × (M ≤ t + n)
   unfolding grammarIn
   row-of r = let q = rule-left (ok .formed) r in (q .0, q .1)
 
-  begin-known : (x a : ℕ) → x < symbolSpace → 0 < a → hasb (getD s x 0) a ≡ true → Begin G a (x ∷ [])
+  pub begin-known : (x a : ℕ) → x < symbolSpace → 0 < a → hasb (getD s x 0) a ≡ true → Begin G a (x ∷ [])
   begin-known x a l w e = first-begin (known-first known x a l w .0 (hasb-has (getD s x 0) a e))
 
   begin-not : (x a : ℕ) → x < symbolSpace → 0 < a → hasb (getD s x 0) a ≡ false → Begin G a (x ∷ []) → ⊥
   begin-not x a l w e b = hasb-not (getD s x 0) a e (known-first known x a l w .1 (begin-first b))
+
+  pub behind : (M N a : ℕ) → M < symbolSpace → First G a (N ∷ []) → (First G a (M ∷ []) → ⊥) → Break G M N a (behindOf s M N a)
+  unfolding behindOf
+  behind M N a lM fN nM =
+      choose-of (Break G M N a) (eqb (getD s M 0 % 2) 1) _ _
+      (λ v. choose-of (Break G M N a) (hasb (getD s (follows + M) 0) a) _ _
+      (λ f. may-vanish fN nM (known-null known M lM .0 (odd-has (getD s M 0) (eqb-true _ _ v))) (after-follow (reach (ok .formed) (ok .useful)) (known-after known M a lM .0 (hasb-has _ a f))))
+      (λ f. no-break fN nM (λ _ c. hasb-not _ a f (known-after known M a lM .1 (follow-after c)))))
+      (λ v. no-break fN nM (λ c _. eqb-false _ _ v (has-odd _ (known-null known M lM .1 c))))
 
   lead-led : (a : ℕ) (xs : List ℕ) → 0 < a → Each (λ x. x < symbolSpace) xs → Begin G a xs → Led G a xs (lead s a xs)
   unfolding lead
@@ -115,7 +124,7 @@ module _ (rows : List ℕ) (t n start count : ℕ) (s : List ℕ) (known : Known
       rw d at (q .1)
 
   module _ (steps : List ℕ) (filled : (R a : ℕ) → R < n → a < t + 1 → getD steps (R * columns + a) 0 ≡ stepOf rows s cells t (R * columns + a)) where
-    next-path : {a M x : ℕ} {u γ : List ℕ} {p : ℕ} (α β : List ℕ) → Rule G p M γ → γ ≡ α ++ x ∷ β → Vanish G α → Path G a x u → Path G a (next steps t a M) u
+    pub next-path : {a M x : ℕ} {u γ : List ℕ} {p : ℕ} (α β : List ℕ) → Rule G p M γ → γ ≡ α ++ x ∷ β → Vanish G α → Path G a x u → Path G a (next steps t a M) u
     unfolding next stepOf choose
     next-path {a} {M} {x} {u} {γ} {p} α β r e v h =
         let b : Begin G a γ = rw e (begin-right v (begin-left β (path-begin h))) in
@@ -179,7 +188,7 @@ module _ (rows : List ℕ) (t n start count : ℕ) (s : List ℕ) (known : Known
 
     -- ---- the highest shared symbol
 
-    last-of : {a x : ℕ} {u : List ℕ} → Path G a x u → List·Memᴰ a u
+    pub last-of : {a x : ℕ} {u : List ℕ} → Path G a x u → List·Memᴰ a u
     last-of (p-end w) = List·Memᴰ·head refl
     last-of (p-down α β r e v h) = List·Memᴰ·tail (last-of h)
 
@@ -228,12 +237,7 @@ module _ (rows : List ℕ) (t n start count : ℕ) (s : List ℕ) (known : Known
         (shared-highest (z .0) mask symbolSpace
         (λ y. (λ q. gather (bits-out symbolSpace 0 y (z .1) (rw em at q)), λ q. rw em (bits-in symbolSpace 0 y (z .1) (stem-short (z .1)) (inr q))))
         (last-of (z .1)) (x .1) (stem-short (x .1))))
-        (λ g. let nM : First G a (M ∷ []) → ⊥ = λ f. begin-not M a lM w g (first-begin f) in
-        choose-of (Break G M N a) (eqb (getD s M 0 % 2) 1) _ _
-        (λ v. choose-of (Break G M N a) (hasb (getD s (follows + M) 0) a) _ _
-        (λ f. may-vanish (begin-first bN) nM (known-null known M lM .0 (odd-has (getD s M 0) (eqb-true _ _ v))) (after-follow (reach (ok .formed) (ok .useful)) (known-after known M a lM .0 (hasb-has _ a f))))
-        (λ f. no-break (begin-first bN) nM (λ _ c. hasb-not _ a f (known-after known M a lM .1 (follow-after c)))))
-        (λ v. no-break (begin-first bN) nM (λ c _. eqb-false _ _ v (has-odd _ (known-null known M lM .1 c))))))
+        (λ g. behind M N a lM (begin-first bN) (λ f. begin-not M a lM w g (first-begin f))))
         (λ h. not-first (λ f. begin-not N a lN w h (first-begin f))))
       where
         gather : {y : ℕ} {u : List ℕ} → Has 0 y ⊎ List·Memᴰ y u → List·Memᴰ y u

@@ -21,7 +21,7 @@ use Rattle.tables.specs.Tables.{tableRows, rowSize, predictionsSize, bre
 use Rattle.tables.specs.Grid.{Grid}
 use Rattle.grammar.specs.Prediction.{noBreak}
 use Rattle.sets.specs.Words.{follows}
-use Rattle.tables.specs.Cells.{lead, stepOf, next, stemBits, maskOf, sharedFrom, pointOf, entryOf}
+use Rattle.tables.specs.Cells.{lead, stepOf, next, stemBits, maskOf, sharedFrom, behindOf, pointOf, entryOf, stepAt, downOf, meetOf, impliedOf}
 
 -- ---- the first symbol that a begins
 
@@ -196,19 +196,24 @@ module _ (s steps : List ℕ) (t M N a mask : ℕ) where
       unfolding pointOf choose
       point-both x f e = rw (ne-eqb a 0 n, ← eb, yes, ← ec, f) e
 
-      pub point-follow : (d : Bool) → c ≡ false → getD s M 0 % 2 ≡ 1 → d ≡ hasb (getD s (follows + M) 0) a → d ≡ true → N ≡ pointOf s steps t M N a mask
+      pub point-behind : (x : ℕ) → c ≡ false → x ≡ behindOf s M N a → x ≡ pointOf s steps t M N a mask
       unfolding pointOf choose
-      point-follow d f e g h = rw (ne-eqb a 0 n, ← eb, yes, ← ec, f, eq-eqb (getD s M 0 % 2) 1 e, ← g, h)
+      point-behind x f e = rw (ne-eqb a 0 n, ← eb, yes, ← ec, f) e
 
-      pub point-never : (d : Bool) → c ≡ false → getD s M 0 % 2 ≡ 1 → d ≡ hasb (getD s (follows + M) 0) a → d ≡ false → noBreak ≡ pointOf s steps t M N a mask
-      unfolding pointOf choose
-      point-never d f e g h = rw (ne-eqb a 0 n, ← eb, yes, ← ec, f, eq-eqb (getD s M 0 % 2) 1 e, ← g, h)
+module _ (s : List ℕ) (M N a : ℕ) where
+  pub behind-follow : (d : Bool) → getD s M 0 % 2 ≡ 1 → d ≡ hasb (getD s (follows + M) 0) a → d ≡ true → N ≡ behindOf s M N a
+  unfolding behindOf choose
+  behind-follow d e g h = rw (eq-eqb (getD s M 0 % 2) 1 e, ← g, h)
 
-      pub point-stuck : c ≡ false → (getD s M 0 % 2 ≡ 1 → ⊥) → noBreak ≡ pointOf s steps t M N a mask
-      unfolding pointOf choose
-      point-stuck f e = rw (ne-eqb a 0 n, ← eb, yes, ← ec, f, ne-eqb (getD s M 0 % 2) 1 e)
+  pub behind-never : (d : Bool) → getD s M 0 % 2 ≡ 1 → d ≡ hasb (getD s (follows + M) 0) a → d ≡ false → noBreak ≡ behindOf s M N a
+  unfolding behindOf choose
+  behind-never d e g h = rw (eq-eqb (getD s M 0 % 2) 1 e, ← g, h)
 
-pub ruleset pointing = (point-end, point-not, point-both, point-follow, point-never, point-stuck)
+  pub behind-stuck : (getD s M 0 % 2 ≡ 1 → ⊥) → noBreak ≡ behindOf s M N a
+  unfolding behindOf choose
+  behind-stuck e = rw (ne-eqb (getD s M 0 % 2) 1 e)
+
+pub ruleset pointing = (point-end, point-not, point-both, point-behind, behind-follow, behind-never, behind-stuck)
 
 -- ---- a cell's row and lookahead
 
@@ -226,3 +231,53 @@ entry-cell s steps masks t r q a v l e =
     let x : (q * columns + a) / columns ≡ q = omega arith in
     let y : (q * columns + a) % columns ≡ a = omega arith in
     rw (x, y) e
+
+-- ---- break points from break points
+
+module _ (steps : List ℕ) (t : ℕ) (w : List ℕ) (R Q a : ℕ) where
+  pub down-end : (x : ℕ) → x ≡ stepAt steps (R * columns + a) → x ≤ t → x ≡ downOf steps t w R Q a
+  unfolding downOf choose
+  down-end x e l = rw (le-leb (stepAt steps (R * columns + a)) t (omega arith)) e
+
+  pub down-on : (x v i : ℕ) → x ≡ stepAt steps (R * columns + a) → t < x → i ≡ breakPlace (x - t - 1) Q a → v ≡ getD w i 0 → v ≡ downOf steps t w R Q a
+  unfolding downOf choose
+  down-on x v i e l f g =
+      rw (lt-leb (stepAt steps (R * columns + a)) t (omega arith)) (g ∙ ap (λ (j : ℕ). getD w j 0) (f ∙ ap (λ (y : ℕ). breakPlace (y - t - 1) Q a) e))
+
+  pub meet-same : R ≡ Q → t + 1 + R ≡ meetOf steps t w R Q a
+  unfolding meetOf choose
+  meet-same e = rw (eq-eqb R Q e)
+
+  module _ (d : R ≡ Q → ⊥) (y : ℕ) (ey : y ≡ stepAt steps (Q * columns + a)) where
+    pub meet-end : (v : ℕ) → y ≤ t → v ≡ downOf steps t w R Q a → v ≡ meetOf steps t w R Q a
+    unfolding meetOf choose
+    meet-end v l e = rw (ne-eqb R Q d, le-leb (stepAt steps (Q * columns + a)) t (omega arith)) e
+
+    module _ (u i : ℕ) (l : t < y) (ei : i ≡ breakPlace R (y - t - 1) a) (eu : u ≡ getD w i 0) where
+      here : u ≡ getD w (breakPlace R (stepAt steps (Q * columns + a) - t - 1) a) 0
+      here = eu ∙ ap (λ (j : ℕ). getD w j 0) (ei ∙ ap (λ (z : ℕ). breakPlace R (z - t - 1) a) ey)
+
+      pub meet-on : u ≡ t + 1 + R → t + 1 + R ≡ meetOf steps t w R Q a
+      unfolding meetOf choose
+      meet-on e = rw (ne-eqb R Q d, lt-leb (stepAt steps (Q * columns + a)) t (omega arith), eq-eqb _ (t + 1 + R) (sym here ∙ e))
+
+      pub meet-off : (v : ℕ) → (u ≡ t + 1 + R → ⊥) → v ≡ downOf steps t w R Q a → v ≡ meetOf steps t w R Q a
+      unfolding meetOf choose
+      meet-off v f e = rw (ne-eqb R Q d, lt-leb (stepAt steps (Q * columns + a)) t (omega arith), ne-eqb _ (t + 1 + R) (λ z. f (here ∙ z))) e
+
+module _ (s steps : List ℕ) (t : ℕ) (w : List ℕ) (R i : ℕ) where
+  pub implied-none : stepAt steps i ≡ 0 → 0 ≡ impliedOf s steps t w R i
+  unfolding impliedOf choose
+  implied-none e = rw (eq-eqb (stepAt steps i) 0 e)
+
+  pub implied-behind : (x y v : ℕ) → y ≡ stepAt steps i → (y ≡ 0 → ⊥) → x ≡ stepAt steps (R * columns + i % columns) → x ≡ 0 → v ≡ behindOf s (t + 1 + R) (t + 1 + i / columns) (i % columns)
+      → v ≡ impliedOf s steps t w R i
+  unfolding impliedOf choose
+  implied-behind x y v ey f ex g e = rw (ne-eqb (stepAt steps i) 0 (λ z. f (ey ∙ z)), eq-eqb (stepAt steps (R * columns + i % columns)) 0 (sym ex ∙ g)) e
+
+  pub implied-meet : (x y v : ℕ) → y ≡ stepAt steps i → (y ≡ 0 → ⊥) → x ≡ stepAt steps (R * columns + i % columns) → (x ≡ 0 → ⊥) → v ≡ meetOf steps t w R (i / columns) (i % columns)
+      → v ≡ impliedOf s steps t w R i
+  unfolding impliedOf choose
+  implied-meet x y v ey f ex g e = rw (ne-eqb (stepAt steps i) 0 (λ z. f (ey ∙ z)), ne-eqb (stepAt steps (R * columns + i % columns)) 0 (λ z. g (ex ∙ z))) e
+
+pub ruleset implying = (down-end, meet-same, meet-end)

@@ -1,8 +1,9 @@
 // The tables of a grammar: predictions, then break points. For a fixed lookahead the stems form a tree, so that each symbol has one step down;
 // the symbols of a stem are the bits of a mask, and the highest shared symbol is the first on one stem that is in the other's mask.
+// Lent tables are tested without masks: a break point follows from those one step down either stem.
 ghost use mathlib.Core.Path.{_≡_};
 ghost use Prim.Native.Nat.{_+_, _-_, _*_, _<_, _≤_};
-ghost use lib.ListN.{length};
+ghost use lib.ListN.{length, drop};
 ghost use Rattle.base.specs.Tells.{Tells};
 ghost use Rattle.grammar.specs.Limits.{maxTerminals, maxNonterminals, columns};
 ghost use Rattle.grammar.specs.Rows.{symbolSpace, grammarIn};
@@ -11,8 +12,9 @@ ghost use Rattle.sets.specs.Words.{setsSize};
 ghost use Rattle.predictions.specs.Hits.{hasb};
 ghost use Rattle.tables.specs.Tables.{rowSize, predictionsSize, breaksSize, tablesSize, Tables};
 ghost use Rattle.tables.specs.Outcome.{Ready};
-ghost use Rattle.tables.specs.Cells.{lead as leadm, stepOf, next as nextm, stemBits, maskOf, sharedFrom, pointOf, entryOf};
+ghost use Rattle.tables.specs.Cells.{lead as leadm, stepOf, next as nextm, stemBits, maskOf, sharedFrom, behindOf, pointOf, entryOf, stepAt, downOf, meetOf, impliedOf};
 ghost use Rattle.tables.specs.Grid.{Grid};
+ghost use Rattle.tables.specs.Live.{Noted, Live, Quiet};
 ghost use Rattle.tables.specs.Writing.{Broken, Laid};
 
 // The break points of one row.
@@ -161,6 +163,20 @@ fn shared(steps: &[u8], t: usize, a: usize, mask: u64, from: usize) -> usize
     0
 }
 
+// The break point of m and n at a where n begins with a and m doesn't.
+fn behind(sets: &[u32], m: usize, n: usize, a: usize) -> usize
+    requires { ⌜ (length (now sets) ≡ setsSize) × (m < symbolSpace) × (n < symbolSpace) × (a < columns) ⌝ }
+    ensures { λ r. ⌜ (r ≡ behindOf (now (sets .entry)) m n a) × (r < 256) ⌝ }
+{
+    if sets[m] % 2 == 1 {
+        if predictions::has(sets[sets::FOLLOWS + m], a) {
+            return n;
+        }
+        return NO_BREAK;
+    }
+    NO_BREAK
+}
+
 // The break point of m and n at a; `mask` has the symbols of n's stem.
 fn point(sets: &[u32], steps: &[u8], t: usize, m: usize, n: usize, a: usize, mask: u64) -> usize
     requires { ⌜ (length (now sets) ≡ setsSize) × (t ≤ maxTerminals) × (m < symbolSpace) × (n < symbolSpace) × (a < columns) ⌝ }
@@ -169,17 +185,11 @@ fn point(sets: &[u32], steps: &[u8], t: usize, m: usize, n: usize, a: usize, mas
     if a == 0 {
         return 0;
     }
-    let word = sets[m];
     if predictions::has(sets[n], a) {
-        if predictions::has(word, a) {
+        if predictions::has(sets[m], a) {
             return shared(steps, t, a, mask, m);
         }
-        if word % 2 == 1 {
-            if predictions::has(sets[sets::FOLLOWS + m], a) {
-                return n;
-            }
-        }
-        return NO_BREAK;
+        return behind(sets, m, n, a);
     }
     0
 }
@@ -225,23 +235,139 @@ fn write_breaks(sets: &[u32], steps: &[u8], masks: &[u64], t: usize, n: usize, w
     }
 }
 
-// Whether the bytes are the break points. `row` is for one row of them.
+// The step of cell i.
+fn step_at(steps: &[u8], i: usize) -> usize
+    ensures { λ r. ⌜ (r ≡ stepAt (now (steps .entry)) i) × (r < symbolSpace) ⌝ }
+{
+    base::byte_at(steps, i) % grammar::SYMBOL_SPACE
+}
+
+// The break point of rows r and q at a by w's break points, where the symbol of r is not on the stem of q's.
+fn down(steps: &[u8], t: usize, r: usize, q: usize, a: usize, w: &[u8]) -> usize
+    requires { ⌜ (r < maxNonterminals) × (q < maxNonterminals) × (a < columns) ⌝ }
+    ensures { λ v. ⌜ (v ≡ downOf (now (steps .entry)) t (now (w .entry)) r q a) × (v < 256) ⌝ }
+{
+    let x = step_at(steps, r * grammar::COLUMNS + a);
+    if x <= t {
+        return x;
+    }
+    base::byte_at(w, (x - t - 1) * ROW_SIZE + q * grammar::COLUMNS + a)
+}
+
+// The same where a begins both symbols.
+fn meet(steps: &[u8], t: usize, r: usize, q: usize, a: usize, w: &[u8]) -> usize
+    requires { ⌜ (t ≤ maxTerminals) × (r < maxNonterminals) × (q < maxNonterminals) × (a < columns) ⌝ }
+    ensures { λ v. ⌜ (v ≡ meetOf (now (steps .entry)) t (now (w .entry)) r q a) × (v < 256) ⌝ }
+{
+    if r == q {
+        return t + 1 + r;
+    }
+    let y = step_at(steps, q * grammar::COLUMNS + a);
+    if y <= t {
+        return down(steps, t, r, q, a, w);
+    }
+    if base::byte_at(w, r * ROW_SIZE + (y - t - 1) * grammar::COLUMNS + a) == t + 1 + r {
+        return t + 1 + r;
+    }
+    down(steps, t, r, q, a, w)
+}
+
+// The same of row r and cell i.
+fn implied(sets: &[u32], steps: &[u8], t: usize, r: usize, i: usize, w: &[u8]) -> usize
+    requires { ⌜ (length (now sets) ≡ setsSize) × (t ≤ maxTerminals) × (r < maxNonterminals) × (i < predictionsSize) ⌝ }
+    ensures { λ v. ⌜ (v ≡ impliedOf (now (sets .entry)) (now (steps .entry)) t (now (w .entry)) r i) × (v < 256) ⌝ }
+{
+    if step_at(steps, i) == 0 {
+        return 0;
+    }
+    let q = i / grammar::COLUMNS;
+    let a = i % grammar::COLUMNS;
+    if step_at(steps, r * grammar::COLUMNS + a) == 0 {
+        return behind(sets, t + 1 + r, t + 1 + q, a);
+    }
+    meet(steps, t, r, q, a, w)
+}
+
+// Puts cell i behind the first k, if it has a step; how many there are then.
+fn note(steps: &[u8], i: usize, live: &mut [u16], k: usize) -> usize
+    requires { ⌜ (i < predictionsSize) × (k < length (now live)) ⌝ }
+    ensures { λ r. ⌜ Noted (now (steps .entry)) i (now (live .entry)) k (now (live .exit)) r ⌝ }
+{
+    if step_at(steps, i) == 0 {
+        return k;
+    }
+    live[k] = i as u16;
+    k + 1
+}
+
+// Lists the cells of the grammar that have a step; how many there are.
+fn list_live(steps: &[u8], t: usize, n: usize, live: &mut [u16]) -> usize
+    requires { ⌜ (t ≤ maxTerminals) × (n ≤ maxNonterminals) × (length (now live) ≡ predictionsSize) ⌝ }
+    ensures { λ k. ⌜ Live (now (steps .entry)) n (t + 1) n 0 (now (live .exit)) k × (k ≤ predictionsSize) ⌝ }
+{
+    let mut k: usize = 0;
+    let mut q: usize = 0;
+    let mut a: usize = 0;
+    while q < n {
+        k = note(steps, q * grammar::COLUMNS + a, live, k);
+        a += 1;
+        if a <= t {
+            continue;
+        }
+        a = 0;
+        q += 1;
+    }
+    k
+}
+
+// A cell's number, to compute with.
+fn place(x: u16) -> usize
+    ensures { λ r. ⌜ r ≡ x ⌝ }
+{
+    x as usize
+}
+
+// The break points of row r that w's break points imply, at the k cells that have a step. The row is 0 at the others.
+fn imply_row(
+    sets: &[u32],
+    steps: &[u8],
+    live: &[u16],
+    k: usize,
+    t: usize,
+    n: usize,
+    r: usize,
+    w: &[u8],
+    row: &mut [u8],
+)
+    requires { ⌜ (length (now sets) ≡ setsSize) × (t ≤ maxTerminals) × (n ≤ maxNonterminals) × (r < n) × (k ≤ length (now live)) × (length (now row) ≡ rowSize) × Live (now steps) n (t + 1) n 0 (now live) k × Quiet (now steps) n (t + 1) (now row) ⌝ }
+    ensures { λ _. ⌜ Grid (impliedOf (now (sets .entry)) (now (steps .entry)) t (now (w .entry)) r) 0 (t + 1) n n 0 (now (row .entry)) (now (row .exit)) ⌝ }
+{
+    let mut j: usize = 0;
+    while j < k {
+        let i = place(live[j]);
+        row[i] = implied(sets, steps, t, r, i, w) as u8;
+        j += 1;
+    }
+}
+
+// Whether the bytes are break points that imply themselves, row by row. `row` is for one row of them.
 fn holds_breaks(
     sets: &[u32],
     steps: &[u8],
-    masks: &[u64],
+    live: &[u16],
+    k: usize,
     t: usize,
     n: usize,
     w: &[u8],
     row: &mut [u8],
 ) -> bool
-    requires { ⌜ (length (now sets) ≡ setsSize) × (length (now masks) ≡ predictionsSize) × (t ≤ maxTerminals) × (n ≤ maxNonterminals) × (length (now w) ≡ breaksSize) × (length (now row) ≡ rowSize) ⌝ }
-    ensures { λ r. ⌜ Tells (Broken (entryOf (now (sets .entry)) (now (steps .entry)) (now (masks .entry)) t) n (t + 1) n (now (w .entry))) r ⌝ }
+    requires { ⌜ (length (now sets) ≡ setsSize) × (t ≤ maxTerminals) × (n ≤ maxNonterminals) × (k ≤ length (now live)) × (length (now w) ≡ breaksSize) × (length (now row) ≡ rowSize) × Live (now steps) n (t + 1) n 0 (now live) k ⌝ }
+    ensures { λ r. ⌜ Tells (Broken (impliedOf (now (sets .entry)) (now (steps .entry)) t (now (w .entry))) n (t + 1) n (now (w .entry))) r ⌝ }
 {
     base::zero(row);
     let mut r: usize = 0;
     while r < n {
-        fill_row(sets, steps, masks, t, n, r, 0, row);
+        imply_row(sets, steps, live, k, t, n, r, w, row);
         if base::same(&w[r * ROW_SIZE..r * ROW_SIZE + ROW_SIZE], row) {
             r += 1;
             continue;
@@ -268,22 +394,23 @@ fn lay(
     write_breaks(sets, steps, masks, t, n, &mut tables[PREDICTIONS_SIZE..]);
 }
 
-// Whether the bytes are the predictions in the cells, then the break points.
+// Whether the bytes are the predictions in the cells, then break points that imply themselves.
 fn holds(
     sets: &[u32],
     cells: &[u8],
     steps: &[u8],
-    masks: &[u64],
+    live: &[u16],
+    k: usize,
     t: usize,
     n: usize,
     tables: &[u8],
     row: &mut [u8],
 ) -> bool
-    requires { ⌜ (length (now sets) ≡ setsSize) × (length (now cells) ≡ predictionsSize) × (length (now masks) ≡ predictionsSize) × (t ≤ maxTerminals) × (n ≤ maxNonterminals) × (length (now tables) ≡ tablesSize) × (length (now row) ≡ rowSize) ⌝ }
-    ensures { λ r. ⌜ Tells (Laid (now (cells .entry)) (entryOf (now (sets .entry)) (now (steps .entry)) (now (masks .entry)) t) n (t + 1) (now (tables .entry))) r ⌝ }
+    requires { ⌜ (length (now sets) ≡ setsSize) × (length (now cells) ≡ predictionsSize) × (t ≤ maxTerminals) × (n ≤ maxNonterminals) × (k ≤ length (now live)) × (length (now tables) ≡ tablesSize) × (length (now row) ≡ rowSize) × Live (now steps) n (t + 1) n 0 (now live) k ⌝ }
+    ensures { λ r. ⌜ Tells (Laid (now (cells .entry)) (impliedOf (now (sets .entry)) (now (steps .entry)) t (drop predictionsSize (now (tables .entry)))) n (t + 1) (now (tables .entry))) r ⌝ }
 {
     if base::same(&tables[0..PREDICTIONS_SIZE], cells) {
-        return holds_breaks(sets, steps, masks, t, n, &tables[PREDICTIONS_SIZE..], row);
+        return holds_breaks(sets, steps, live, k, t, n, &tables[PREDICTIONS_SIZE..], row);
     }
     false
 }
@@ -327,9 +454,9 @@ pub fn is_prepared(
         return false;
     }
     let mut steps = [0u8; PREDICTIONS_SIZE];
-    let mut masks = [0u64; PREDICTIONS_SIZE];
+    let mut live = [0u16; PREDICTIONS_SIZE];
     let mut row = [0u8; ROW_SIZE];
     fill_steps(rows, sets, cells, t, n, &mut steps);
-    fill_masks(&steps, t, n, &mut masks);
-    holds(sets, cells, &steps, &masks, t, n, tables, &mut row)
+    let k = list_live(&steps, t, n, &mut live);
+    holds(sets, cells, &steps, &live, k, t, n, tables, &mut row)
 }

@@ -15,7 +15,7 @@ use Rattle.grammar.specs.Rows.{symbolSpace}
 use Rattle.grammar.specs.Reference.{reference}
 use Rattle.predictions.specs.Hits.{hasb}
 use Rattle.tables.specs.Tables.{rowSymbol, Prediction}
-use Rattle.tables.specs.Cells.{next, stemBits, sharedFrom, pointOf}
+use Rattle.tables.specs.Cells.{next, stemBits, sharedFrom, behindOf, pointOf}
 use Rattle.tables.specs.Points.{point}
 use Rattle.plain.specs.Plain.{Verdict, accepted, syntax, noRoom, Parses}
 use Rattle.plain.specs.Machine.{marked}
@@ -179,15 +179,15 @@ unfolding sum used cell cells zeros choose
 nine = refl
 
 twentyfive : sum 5 (λ R. sum 5 (λ Q. sum columns (λ a. used (entry (6 + R) (6 + Q) a)))) ≡ 25
-unfolding sum used entry pointOf stemBits sharedFrom next hasb words steps zeros choose
+unfolding sum used entry pointOf behindOf stemBits sharedFrom next hasb words steps zeros choose
 twentyfive = refl
 
 seventeen : sum 5 (λ R. sum 5 (λ Q. sum columns (λ a. error (entry (6 + R) (6 + Q) a)))) ≡ 17
-unfolding sum error entry pointOf stemBits sharedFrom next hasb words steps zeros choose
+unfolding sum error entry pointOf behindOf stemBits sharedFrom next hasb words steps zeros choose
 seventeen = refl
 
 at-9-10-4 : entry 9 10 4 ≡ 10
-unfolding entry pointOf stemBits sharedFrom next hasb words steps zeros choose
+unfolding entry pointOf behindOf stemBits sharedFrom next hasb words steps zeros choose
 at-9-10-4 = refl
 
 at-7-6-1 : entry 7 6 1 ≡ 7
@@ -195,7 +195,7 @@ unfolding entry pointOf stemBits sharedFrom next hasb words steps zeros choose
 at-7-6-1 = refl
 
 at-8-9-3 : entry 8 9 3 ≡ 255
-unfolding entry pointOf stemBits sharedFrom next hasb words steps zeros choose
+unfolding entry pointOf behindOf stemBits sharedFrom next hasb words steps zeros choose
 at-8-9-3 = refl
 
 at-8-10-2 : entry 8 10 2 ≡ 0

@@ -1,24 +1,13 @@
 //! What is written about the answers to cases of prepare, and what is sent.
 
 use super::*;
+use crate::parse_case;
 use crate::prepare_case;
 
 const SEED: u64 = 7;
 
 fn cases(count: usize) -> Vec<prepare_case::Case> {
-    (0..count)
-        .map(|number| prepare_case::case(SEED, number))
-        .collect()
-}
-
-/// The right answer to a case as the other program gives it.
-fn right_answer(case: &prepare_case::Case) -> Vec<u8> {
-    let (reply, answer) = case.expected();
-    if reply.number == 0 {
-        [&answer.reply[..], &[1], &answer.others[0].1].concat()
-    } else {
-        [&answer.reply[..], &[0]].concat()
-    }
+    prepare_case::cases(SEED).take(count).collect()
 }
 
 /// The tally and the text for these answers to the first cases.
@@ -30,7 +19,7 @@ fn report(count: usize, answers: &[Vec<u8>]) -> (Tally, String) {
 }
 
 fn right_answers(count: usize) -> Vec<Vec<u8>> {
-    cases(count).iter().map(right_answer).collect()
+    cases(count).iter().map(checks::right_answer).collect()
 }
 
 fn totals(tally: &Tally, count: usize) -> (usize, String) {
@@ -76,6 +65,61 @@ fn a_different_reply_is_a_difference() {
     assert!(text.contains("the second program replies: 01 00 00 00 2d 00"));
     assert!(text.contains("the other program replies:  01 00 00 00 2e 00"));
     assert!(text.ends_with("tables: the same\n"));
+}
+
+#[test]
+fn a_different_sign_is_written_with_what_it_says() {
+    let case = parse_case::cases(SEED).next().expect("there are cases");
+    let mut answer = checks::right_answer(&case);
+    *answer.last_mut().expect("a sign") = 0;
+    let mut out = Vec::new();
+    let tally = compare(SEED, [case], &answer[..], &mut out).expect("nothing to fail");
+    assert_eq!(tally.passed, 0);
+    let text = String::from_utf8(out).expect("the report is text");
+    let end = "tree: the same\nwork area zero: the second program has 1, the other 0\n";
+    assert!(text.ends_with(end), "{text}");
+}
+
+/// A case of which this program's own answer breaks a rule.
+struct Broken(prepare_case::Case);
+
+impl Case for Broken {
+    const REPLIES: &'static [usize] = prepare_case::Case::REPLIES;
+    const WRITTEN: &'static str = prepare_case::Case::WRITTEN;
+    const SIGNS: &'static [&'static str] = prepare_case::Case::SIGNS;
+
+    fn bytes(&self) -> Vec<u8> {
+        self.0.bytes()
+    }
+
+    fn before(&self) -> Answer {
+        self.0.before()
+    }
+
+    fn expected(&self) -> (Reply, Answer) {
+        self.0.expected()
+    }
+
+    fn broken_rule(&self, reply: Reply, _: &Answer) -> Option<&'static str> {
+        reply.is_accepted().then_some("all is refused")
+    }
+
+    fn text(&self) -> String {
+        self.0.text()
+    }
+}
+
+#[test]
+fn a_broken_rule_fails_even_if_the_answers_are_equal() {
+    let answers = right_answers(4).concat();
+    let cases = cases(4).into_iter().map(Broken);
+    let mut out = Vec::new();
+    let tally = compare(SEED, cases, &answers[..], &mut out).expect("nothing to fail");
+    assert_eq!(tally.passed, 3);
+    let text = String::from_utf8(out).expect("the report is text");
+    assert!(text.starts_with("seed 7 case 0: reference\n"));
+    assert!(text.contains("\nthe second program breaks the rule: all is refused\n"));
+    assert!(text.ends_with("\ntables: the same\n"));
 }
 
 #[test]
@@ -131,7 +175,8 @@ fn cases_are_written_in_order() {
 #[test]
 fn a_program_that_is_not_there_is_an_error() {
     let mut program = Command::new("no-such-program");
-    assert!(calls(prepare_case::case, SEED, 1, &mut program, &mut Vec::new()).is_err());
+    let cases = prepare_case::cases(SEED);
+    assert!(calls(cases, SEED, 1, &mut program, &mut Vec::new()).is_err());
 }
 
 #[test]

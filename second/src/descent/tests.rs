@@ -4,6 +4,7 @@
 use super::*;
 use crate::earley;
 use crate::enumeration;
+use crate::limits;
 use crate::plain_parse;
 use crate::prepare;
 use crate::random::Random;
@@ -83,7 +84,7 @@ fn an_empty_body_needs_no_slot() {
 
 #[test]
 fn lookahead_31_has_the_highest_bit() {
-    let grammar = samples::chain();
+    let grammar = limits::chain();
     let tables = tables::of(&grammar);
     let highest = Reply::syntax(0, 1 << 31);
     assert_eq!(reply(&grammar, &tables, &[], 1), highest);

@@ -2,7 +2,7 @@
 //! and what the generated cases reach.
 
 use super::*;
-use crate::calls::Case as _;
+use crate::calls::{checks, Case as _};
 
 fn reference_case(tables_length: usize, reply_length: usize, fill: u8) -> Case {
     Case {
@@ -25,7 +25,7 @@ fn reply(number: u8, place: u8) -> Vec<u8> {
 fn assert_refused(number: u8, place: u8, case: &Case) {
     let (_, answer) = case.expected();
     assert_eq!(answer.reply, reply(number, place));
-    assert_eq!(answer.others[0].1, vec![case.fill; case.tables_length]);
+    assert_eq!(answer.written, vec![case.fill; case.tables_length]);
 }
 
 #[test]
@@ -59,10 +59,10 @@ fn a_case_without_image_and_buffers_is_14_bytes() {
 fn the_first_case_is_the_reference_image_accepted() {
     let (_, answer) = case(1, 0).expected();
     assert_eq!(answer.reply, [0; 32]);
-    let used = answer.others[0].1.iter().filter(|&&byte| byte != 0);
+    let used = answer.written.iter().filter(|&&byte| byte != 0);
     assert_eq!(used.count(), 9 + 25);
-    assert_eq!(answer.others[0].1.len(), 33_792);
-    assert_eq!(answer.others[0].1[..2], [2, 1]);
+    assert_eq!(answer.written.len(), 33_792);
+    assert_eq!(answer.written[..2], [2, 1]);
 }
 
 #[test]
@@ -99,53 +99,25 @@ fn bytes_beyond_the_reply_keep_the_fill_byte() {
 
 #[test]
 fn a_short_reply_leaves_the_tables_whole() {
-    let tables = |case: Case| case.expected().1.others.remove(0).1;
+    let tables = |case: Case| case.expected().1.written;
     let whole = tables(reference_case(33_792, 32, 0));
     assert_eq!(tables(reference_case(33_792, 0, 0xff)), whole);
 }
 
 #[test]
-fn an_answer_without_tables_has_them_filled() {
-    let case = reference_case(3, 2, 0x55);
-    let mut bytes = &[4, 0, 0, 99][..];
-    let answer = case.read_answer(&mut bytes).expect("a whole answer");
-    assert_eq!(answer.reply, [4, 0]);
-    assert_eq!(answer.others[0].1, [0x55; 3]);
-    assert_eq!(bytes, [99]);
-}
-
-#[test]
-fn an_answer_with_tables_is_read_to_its_end() {
-    let case = reference_case(3, 1, 0x55);
-    let mut bytes = &[0, 1, 7, 8, 9, 99][..];
-    let answer = case.read_answer(&mut bytes).expect("a whole answer");
-    assert_eq!(answer.reply, [0]);
-    assert_eq!(answer.others[0].1, [7, 8, 9]);
-    assert_eq!(bytes, [99]);
-}
-
-#[test]
-fn a_cut_answer_and_one_of_no_kind_are_errors() {
-    let case = reference_case(3, 1, 0x55);
-    for bytes in [&[][..], &[0], &[0, 1, 7, 8], &[0, 2, 7, 8, 9]] {
-        assert!(case.read_answer(&mut &*bytes).is_err());
-    }
+fn answers_are_read() {
+    checks::assert_right_answers_are_read(cases(3).take(300));
+    checks::assert_wrong_answers_are_told(&reference_case(33_792, 1, 0x55));
 }
 
 #[test]
 fn cases_get_every_reply_and_a_third_of_them_is_accepted() {
-    let mut counts = [0; 5];
-    for number in 0..2_000 {
-        let (reply, _) = case(1, number).expected();
-        counts[reply.number as usize] += 1;
-    }
-    assert!(counts[0] > 2_000 / 3, "{counts:?}");
-    assert!(counts.iter().all(|&count| count > 100), "{counts:?}");
+    checks::assert_replies(cases(1).take(2_000), 2_000 / 3, 100);
 }
 
 #[test]
 fn cases_reach_every_length_and_fill() {
-    let cases: Vec<Case> = (0..3_000).map(|number| case(2, number)).collect();
+    let cases: Vec<Case> = cases(2).take(3_000).collect();
     let some = |wanted: &dyn Fn(&Case) -> bool| cases.iter().any(wanted);
     assert!((0..=40).all(|length| some(&|case| case.reply_length == length)));
     assert!([0, 1, 33_791, 33_792, 33_793]
@@ -159,8 +131,5 @@ fn cases_reach_every_length_and_fill() {
 
 #[test]
 fn seed_and_number_settle_a_case() {
-    for number in 0..200 {
-        assert_eq!(case(5, number), case(5, number));
-    }
-    assert!((4..100).any(|number| case(5, number) != case(6, number)));
+    checks::assert_seed_settles(cases, 4);
 }

@@ -2,23 +2,11 @@
 //! the validity of their areas by a second method.
 
 use super::*;
-use crate::calls::Case as _;
+use crate::calls::{checks, Case as _};
 use crate::prepare;
 use crate::samples;
 use crate::tree::Slot;
 use std::collections::HashMap;
-
-/// The right answer to a case as the other program gives it.
-fn right_answer(case: &Case) -> Vec<u8> {
-    let (_, answer) = case.expected();
-    let output = &answer.others[0].1;
-    let output = if *output == case.output() {
-        vec![0]
-    } else {
-        [&[1][..], output].concat()
-    };
-    [&answer.reply[..], &output, &[1]].concat()
-}
 
 #[test]
 fn a_case_is_letter_lengths_fill_image_and_tree() {
@@ -48,58 +36,28 @@ fn a_case_is_letter_lengths_fill_image_and_tree() {
 
 #[test]
 fn the_first_cases_are_read_back() {
-    let replies: Vec<Reply> = (0..3).map(|number| case(1, number).expected().0).collect();
+    let replies: Vec<Reply> = cases(1).take(3).map(|case| case.expected().0).collect();
     assert_eq!(replies, [1, 9, 17].map(Reply::read_back));
     let (_, answer) = case(1, 1).expected();
     let tokens = [1, 1, 0, 0, 0, 2, 2, 0, 0, 0, 5, 3, 0, 0, 0];
-    assert_eq!(answer.others[0], ("output", tokens.to_vec()));
+    assert_eq!(answer.written, tokens);
 }
 
 #[test]
-fn right_answers_are_read_as_such() {
-    for number in 0..300 {
-        let case = case(3, number);
-        let bytes = right_answer(&case);
-        let mut rest = &bytes[..];
-        let answer = case.read_answer(&mut rest).expect("a whole answer");
-        assert_eq!(answer, case.expected().1);
-        assert_eq!(rest, []);
-    }
-}
-
-#[test]
-fn a_sign_other_than_1_is_a_difference_and_a_cut_answer_an_error() {
-    let case = case(1, 1);
-    let right = right_answer(&case);
-    let wrong = [&right[..right.len() - 1], &[0]].concat();
-    let answer = case.read_answer(&mut &wrong[..]).expect("a whole answer");
-    assert_ne!(answer, case.expected().1);
-    for length in 0..right.len() {
-        assert!(case.read_answer(&mut &right[..length]).is_err());
-    }
+fn answers_are_read() {
+    checks::assert_right_answers_are_read(cases(3).take(300));
+    checks::assert_wrong_answers_are_told(&case(1, 1));
 }
 
 #[test]
 fn cases_get_every_reply_and_a_quarter_of_them_is_accepted() {
-    let mut counts = [0; 12];
-    for number in 0..2_000 {
-        let (reply, _) = case(1, number).expected();
-        counts[reply.number as usize] += 1;
-    }
-    assert!(counts[0] > 2_000 / 4, "{counts:?}");
-    let replies = Case::REPLIES;
-    assert!(
-        replies.iter().all(|&number| counts[number] > 40),
-        "{counts:?}"
-    );
-    assert_eq!(counts.iter().sum::<usize>(), 2_000);
+    checks::assert_replies(cases(1).take(2_000), 2_000 / 4, 40);
 }
 
 #[test]
 fn every_change_of_an_area_is_made_and_all_but_a_few_break_some() {
     let mut replies: HashMap<String, Vec<u32>> = HashMap::new();
-    for number in 0..3_000 {
-        let case = case(2, number);
+    for case in cases(2).take(3_000) {
         let (reply, _) = case.expected();
         let kinds: Vec<&str> = case.kind.split(", ").collect();
         if let [_, change] = kinds[..] {
@@ -124,7 +82,7 @@ fn every_change_of_an_area_is_made_and_all_but_a_few_break_some() {
 
 #[test]
 fn trees_stand_in_any_slots_and_areas_have_any_size() {
-    let cases: Vec<Case> = (0..800).map(|number| case(2, number)).collect();
+    let cases: Vec<Case> = cases(2).take(800).collect();
     let some = |wanted: &dyn Fn(&Case) -> bool| cases.iter().any(wanted);
     assert!(some(&|case| case.area.len() == area_bytes(1)));
     assert!(some(&|case| case.area.len() == area_bytes(1_000)));
@@ -180,8 +138,7 @@ fn walk(grammar: &Grammar, area: &[u8], slots: usize) -> Option<(Vec<u16>, Vec<T
 #[test]
 fn a_valid_tree_is_what_would_be_written_for_its_sentence() {
     let mut counts = [0; 2];
-    for number in 0..3_000 {
-        let case = case(4, number);
+    for (number, case) in cases(4).take(3_000).enumerate() {
         if let Ok((grammar, _)) = prepare::ll1_grammar(&case.image) {
             let is_valid = tree::read(&grammar, &case.area).is_some();
             let is_written = is_what_would_be_written(&grammar, &case.area);
@@ -208,8 +165,5 @@ fn trees_of_v_agree_in_all_bits_by_both_methods() {
 
 #[test]
 fn seed_and_number_settle_a_case() {
-    for number in 0..200 {
-        assert_eq!(case(5, number), case(5, number));
-    }
-    assert!((3..100).any(|number| case(5, number) != case(6, number)));
+    checks::assert_seed_settles(cases, 3);
 }

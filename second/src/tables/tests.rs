@@ -2,6 +2,7 @@
 //! largest grammars, and of small random ones.
 
 use super::*;
+use crate::limits;
 use crate::random::Random;
 use crate::random_grammar;
 use crate::samples;
@@ -128,7 +129,7 @@ fn the_break_points_of_figure_4() {
 
 #[test]
 fn the_last_entries_of_the_largest_grammar_fill_the_last_bytes() {
-    let prepared = Prepared::of(samples::largest());
+    let prepared = Prepared::of(limits::largest());
     assert_eq!(prepared.grammar.productions.len(), 128);
     assert_eq!(prepared.bytes[1_023], 125);
     assert_eq!(prepared.bytes[33_791], 63);
@@ -137,7 +138,7 @@ fn the_last_entries_of_the_largest_grammar_fill_the_last_bytes() {
 
 #[test]
 fn stems_of_the_largest_grammar_meet_in_the_terminal() {
-    let prepared = Prepared::of(samples::largest());
+    let prepared = Prepared::of(limits::largest());
     assert_eq!(prepared.break_point(32, 63, 31), 31);
     assert_eq!(prepared.break_point(63, 32, 2), 2);
     assert_eq!(prepared.break_point(40, 40, 31), 40);
@@ -146,7 +147,7 @@ fn stems_of_the_largest_grammar_meet_in_the_terminal() {
 
 #[test]
 fn stems_of_a_chain_meet_in_the_lower_of_two_nonterminals() {
-    let prepared = Prepared::of(samples::chain());
+    let prepared = Prepared::of(limits::chain());
     for m in 32..=63 {
         for n in 32..=63 {
             assert_eq!(prepared.break_point(m, n, 31), m.max(n));
@@ -156,7 +157,7 @@ fn stems_of_a_chain_meet_in_the_lower_of_two_nonterminals() {
 
 #[test]
 fn the_longest_stem_ends_with_the_terminal() {
-    let grammar = samples::chain();
+    let grammar = limits::chain();
     let stems = Stems::of(&grammar, &Sets::of(&grammar));
     let stem: Vec<u8> = stems.stem(32, 31).collect();
     assert_eq!(stem, (32..=63).chain([31]).collect::<Vec<u8>>());

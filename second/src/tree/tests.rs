@@ -104,6 +104,19 @@ fn a_tree_is_written_byte_by_byte() {
 }
 
 #[test]
+fn a_written_tree_and_its_slots_are_found_again() {
+    let grammar = samples::reference();
+    let tables = tables::of(&grammar);
+    for kinds in [&[][..], &[1, 2, 5], &[1, 2, 3, 2, 4, 2, 5, 1, 2, 5]] {
+        let tree = descent::parse(&grammar, &tables, &samples::tokens(kinds), 40).expect("a tree");
+        let slot_of = tree.in_slots((1..=40).rev());
+        let mut area = vec![0; area_bytes(40)];
+        write(&tree, &slot_of, &mut area);
+        assert_eq!(derivation(&area), (tree, slot_of));
+    }
+}
+
+#[test]
 fn numbers_have_two_bytes_each() {
     let header = Header {
         root: 0x0102,

@@ -1,15 +1,8 @@
-use Rattle.matching.specs.Finding.{Started, started-none, started-inner, started-leaf, Sought, sought-none, sought-symbol, sought-void, found-none, found-some, was-before, was-new, was-after}
-use Prim.Native.Nat.{_+_, _-_, _<_, _≤_}
-use mathlib.Core.Path.{_≡_}
-use lib.ListN.{length}
+use Rattle.matching.specs.Finding.{Sought, sought-symbol, sought-void, found-none, found-some}
+use Prim.Native.Nat.{_-_, _≤_}
 use borrow.Author.Needs.{needs}
-use native.Mathlib.Omega.{arith}
 use Rattle.matching.proofs.find.Statement.{statement}
 use Rattle.matching.proofs.find.Tie as tie
-use Rattle.matching.proofs.find.Reads as reads
-use Rattle.matching.proofs.find.Lts as lts
-use Rattle.matching.proofs.wide.Reads as wide-reads
-use Rattle.trees.proofs.symbol_of.Reads as symbol-of-reads
 
 abbrev Inv-loop : tie.InvT-loop
 Inv-loop nodes widths lo hi x j₀ j = (lo ≤ j) × Sought nodes widths lo j x

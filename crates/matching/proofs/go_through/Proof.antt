@@ -1,17 +1,11 @@
 use Rattle.matching.specs.Handing.{Few, few-handed}
-use Rattle.matching.specs.Through.{Blank, blank-few, Through, through-start, through-inner, through-leaf, through-end}
-use Prim.Native.Nat.{_+_, _-_, _<_, _≤_}
+use Rattle.matching.specs.Through.{blank-few, Through, through-start, through-inner, through-leaf, through-end}
+use Prim.Native.Nat.{_-_, _≤_}
 use mathlib.Core.Path.{_≡_}
 use lib.ListN.{length}
 use borrow.Author.Needs.{needs}
-use native.Mathlib.Omega.{arith}
 use Rattle.matching.proofs.go_through.Statement.{statement}
 use Rattle.matching.proofs.go_through.Tie as tie
-use Rattle.matching.proofs.go_through.Reads as reads
-use Rattle.matching.proofs.go_through.Lts as lts
-use Rattle.matching.proofs.hand.Reads as hand-reads
-use Rattle.matching.proofs.turn.Reads as turn-reads
-use Rattle.trees.proofs.production_of.Reads as production-of-reads
 
 abbrev Inv-loop : tie.InvT-loop
 Inv-loop nodes n base k ends widths starts tokens place removed inserted matches₀ i₀ t₀ matches i t =

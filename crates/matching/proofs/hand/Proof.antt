@@ -1,14 +1,8 @@
-use Rattle.matching.specs.Handing.{Rising, handed-new, handed-old, handed-both, HandingAt, handing-start, handing-new, handing-old, handing-next}
-use Prim.Native.Nat.{_+_, _-_, _<_, _≤_}
-use mathlib.Core.Path.{_≡_}
-use lib.ListN.{length}
-use native.Mathlib.Omega.{arith}
+use Rattle.matching.specs.Handing.{handed-new, handed-old, handed-both}
+use Prim.Native.Nat.{_-_}
 use borrow.Author.Needs.{needs}
 use Rattle.matching.proofs.hand.Statement.{statement}
 use Rattle.matching.proofs.hand.Tie as tie
-use Rattle.matching.proofs.hand.Reads as reads
-use Rattle.matching.proofs.hand.Lts as lts
-use Rattle.matching.proofs.wide.Reads as wide-reads
 
 mul-wide : tie.Need-mul-wide
 mul-wide c = search needs

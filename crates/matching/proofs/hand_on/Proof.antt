@@ -3,13 +3,8 @@ use Prim.Native.Nat.{_+_, _-_, _<_, _≤_}
 use mathlib.Core.Path.{_≡_}
 use lib.ListN.{length}
 use borrow.Author.Needs.{needs}
-use native.Mathlib.Omega.{arith}
 use Rattle.matching.proofs.hand_on.Statement.{statement}
 use Rattle.matching.proofs.hand_on.Tie as tie
-use Rattle.matching.proofs.hand_on.Reads as reads
-use Rattle.matching.proofs.hand_on.Lts as lts
-use Rattle.matching.proofs.hand.Reads as hand-reads
-use Rattle.matching.proofs.wide.Reads as wide-reads
 
 abbrev Inv-loop : tie.InvT-loop
 Inv-loop ends widths n base k i j matches₀ last stop c₀ d₀ matches c d = (last ≤ base + k) × (stop ≤ n) × (i < c) × (j < d) × (length matches ≡ length matches₀) × HandingAt ends widths base i j matches₀ c d matches × Few n matches

@@ -1,14 +1,10 @@
 use Rattle.matching.specs.Finding.{Started, started-none, started-inner, started-leaf, started-end}
-use Prim.Native.Nat.{_+_, _-_, _<_, _≤_}
+use Prim.Native.Nat.{_-_, _<_, _≤_}
 use mathlib.Core.Path.{_≡_}
 use lib.ListN.{length, length-set}
 use borrow.Author.Needs.{needs}
-use native.Mathlib.Omega.{arith}
 use Rattle.matching.proofs.mark_starts.Statement.{statement}
 use Rattle.matching.proofs.mark_starts.Tie as tie
-use Rattle.matching.proofs.mark_starts.Reads as reads
-use Rattle.matching.proofs.mark_starts.Lts as lts
-use Rattle.trees.proofs.production_of.Reads as production-of-reads
 
 abbrev Inv-loop : tie.InvT-loop
 Inv-loop nodes n starts₀ t₀ i₀ starts t i = (i ≤ n) × (t ≤ i) × (n < length starts) × (length starts ≡ length starts₀) × Started nodes i t starts

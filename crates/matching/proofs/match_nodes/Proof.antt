@@ -1,13 +1,7 @@
 use Rattle.matching.specs.Through.{rising-new, rising-old, matched-all}
-use native.Mathlib.Omega.{arith}
 use borrow.Author.Needs.{needs}
 use Rattle.matching.proofs.match_nodes.Statement.{statement}
 use Rattle.matching.proofs.match_nodes.Tie as tie
-use Rattle.matching.proofs.match_nodes.Reads as reads
-use Rattle.matching.proofs.match_nodes.Lts as lts
-use Rattle.matching.proofs.go_through.Reads as go-through-reads
-use Rattle.matching.proofs.mark_starts.Reads as mark-starts-reads
-use Rattle.matching.proofs.measure.Reads as measure-reads
 
 measure-requires : tie.Need-measure-requires
 measure-requires c κs = search needs

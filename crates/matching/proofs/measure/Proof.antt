@@ -1,13 +1,8 @@
 use Rattle.matching.specs.Measure.{treeIn, Built, Gauged, gauge-start, gauge-next, gauge-more, gauge-end}
-use Prim.Native.Nat.{_+_, _≤_}
-use lib.ListN.{length}
+use Prim.Native.Nat.{_≤_}
 use borrow.Author.Needs.{needs}
-use native.Mathlib.Omega.{arith}
 use Rattle.matching.proofs.measure.Statement.{statement}
 use Rattle.matching.proofs.measure.Tie as tie
-use Rattle.matching.proofs.measure.Reads as reads
-use Rattle.matching.proofs.measure.Lts as lts
-use Rattle.matching.proofs.span_of.Reads as span-of-reads
 
 abbrev Inv-loop : tie.InvT-loop
 Inv-loop nodes base n rows ends₀ widths₀ i₀ ends widths i = (i ≤ n) × Built rows nodes n base × Gauged (treeIn rows nodes n base) base i ends₀ widths₀ ends widths

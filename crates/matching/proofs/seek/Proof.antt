@@ -1,14 +1,8 @@
 use Rattle.matching.specs.Handing.{few-set}
-use Rattle.matching.specs.Matching.{seeks-void, seeks-full, turned-zero, turned-some}
-use native.Mathlib.Omega.{arith}
+use Rattle.matching.specs.Matching.{seeks-void, seeks-full}
 use borrow.Author.Needs.{needs}
 use Rattle.matching.proofs.seek.Statement.{statement}
 use Rattle.matching.proofs.seek.Tie as tie
-use Rattle.matching.proofs.seek.Reads as reads
-use Rattle.matching.proofs.seek.Lts as lts
-use Rattle.matching.proofs.source.Reads as source-reads
-use Rattle.matching.proofs.wide.Reads as wide-reads
-use Rattle.trees.proofs.symbol_of.Reads as symbol-of-reads
 
 add-wide : tie.Need-add-wide
 add-wide c = search needs

@@ -1,17 +1,8 @@
 use Rattle.matching.specs.Finding.{source-new, source-beyond, starts-in, source-found}
-use Rattle.matching.specs.Handing.{Rising, handed-new, handed-old, handed-both, HandingAt, handing-start, handing-new, handing-old, handing-next}
-use Prim.Native.Nat.{_+_, _-_, _<_, _≤_}
-use mathlib.Core.Path.{_≡_}
-use lib.ListN.{length}
-use native.Mathlib.Omega.{arith}
+use Prim.Native.Nat.{_-_}
 use borrow.Author.Needs.{needs}
 use Rattle.matching.proofs.source.Statement.{statement}
 use Rattle.matching.proofs.source.Tie as tie
-use Rattle.matching.proofs.source.Reads as reads
-use Rattle.matching.proofs.source.Lts as lts
-use Rattle.matching.proofs.find.Reads as find-reads
-use Rattle.matching.proofs.was.Reads as was-reads
-use Rattle.matching.proofs.wide.Reads as wide-reads
 
 was-requires : tie.Need-was-requires
 was-requires c κs = search needs

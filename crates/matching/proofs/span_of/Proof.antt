@@ -1,16 +1,9 @@
-use Rattle.matching.specs.Measure.{treeIn, Built, Measured, Spanned, Hop, span-leaf, hop-start, hop-next, hop-end}
-use Prim.Native.Nat.{_+_, _-_, _<_, _≤_}
-use lib.ListN.{length}
+use Rattle.matching.specs.Measure.{treeIn, Built, Measured, Hop, span-leaf, hop-start, hop-next, hop-end}
+use Prim.Native.Nat.{_+_, _-_, _<_}
 use mathlib.Core.Path.{sym, _∙_}
 use borrow.Author.Needs.{needs}
-use native.Mathlib.Omega.{arith}
 use Rattle.matching.proofs.span_of.Statement.{statement}
 use Rattle.matching.proofs.span_of.Tie as tie
-use Rattle.matching.proofs.span_of.Reads as reads
-use Rattle.matching.proofs.span_of.Lts as lts
-use Rattle.grammar.proofs.length_at.Reads as length-at-reads
-use Rattle.matching.proofs.wide.Reads as wide-reads
-use Rattle.trees.proofs.production_of.Reads as production-of-reads
 
 abbrev Inv-loop : tie.InvT-loop
 Inv-loop nodes base n rows i ends widths p k c₀ width₀ m₀ c width m = Built rows nodes n base × (i < n) × Hop rows nodes n base i k m c width × Measured (treeIn rows nodes n base) base (i + 1) ends widths

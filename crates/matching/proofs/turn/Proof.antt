@@ -1,14 +1,8 @@
 use Rattle.matching.specs.Handing.{few-one}
-use Rattle.matching.specs.Matching.{seeks-void, seeks-full, turned-zero, turned-some}
-use native.Mathlib.Omega.{arith}
+use Rattle.matching.specs.Matching.{turned-zero, turned-some}
 use borrow.Author.Needs.{needs}
 use Rattle.matching.proofs.turn.Statement.{statement}
 use Rattle.matching.proofs.turn.Tie as tie
-use Rattle.matching.proofs.turn.Reads as reads
-use Rattle.matching.proofs.turn.Lts as lts
-use Rattle.matching.proofs.hand_on.Reads as hand-on-reads
-use Rattle.matching.proofs.seek.Reads as seek-reads
-use Rattle.matching.proofs.wide.Reads as wide-reads
 
 seek-requires : tie.Need-seek-requires
 seek-requires c κs = search needs

@@ -1,13 +1,8 @@
-use Rattle.matching.specs.Finding.{Started, started-none, started-inner, started-leaf, Sought, sought-none, sought-symbol, sought-void, found-none, found-some, was-before, was-new, was-after}
-use Prim.Native.Nat.{_+_, _-_, _<_, _≤_}
-use mathlib.Core.Path.{_≡_}
-use lib.ListN.{length}
-use native.Mathlib.Omega.{arith}
+use Rattle.matching.specs.Finding.{was-before, was-new, was-after}
+use Prim.Native.Nat.{_-_}
 use borrow.Author.Needs.{needs}
 use Rattle.matching.proofs.was.Statement.{statement}
 use Rattle.matching.proofs.was.Tie as tie
-use Rattle.matching.proofs.was.Reads as reads
-use Rattle.matching.proofs.was.Lts as lts
 
 add-result : tie.Need-add-result
 add-result c = search needs

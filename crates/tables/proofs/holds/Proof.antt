@@ -25,13 +25,13 @@ part-holds-breaks-end : tie.Need-part-holds-breaks-end
 part-holds-breaks-end c = search needs
 
 holds-breaks-requires : tie.Need-holds-breaks-requires
-holds-breaks-requires c κs = search needs
+holds-breaks-requires c κs = (search needs, search needs, search needs, search needs, search needs, search needs, c .before .before .before .before .before .before .before .before .before .before .before .pre .7)
 
 same-length : tie.Need-same-length
 same-length c = search needs
 
 returns : tie.Need-returns
-returns c = laid-told _ _ _ _ _ _ (search needs) (c .before .before .before .before .before .before .same .ensures .yes (search needs)) (c .before .before .holds-breaks .ensures)
+returns c = laid-told _ _ _ _ _ _ _ _ (search needs) (c .before .before .before .before .before .before .same .ensures .yes (search needs)) (c .before .before .holds-breaks .ensures)
 
 returns-2 : tie.Need-returns-2
 returns-2 c = laid-not _ _ _ _ _ (search needs) (search needs) (c .before .same .ensures .no (search needs))

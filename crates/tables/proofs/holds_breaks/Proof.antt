@@ -1,6 +1,7 @@
-use Rattle.tables.specs.Checking.{Blank, Held, blank-zeros, held-none, blank-more, held-more, held-not, held-all}
-use Rattle.tables.specs.Cells.{entryOf}
-use Rattle.tables.specs.Tables.{rowSize, predictionsSize, breaksSize}
+use Rattle.tables.specs.Checking.{Blank, Held, blank-zeros, quiet-zeros, held-none, blank-more, quiet-more, held-more, held-not, held-all}
+use Rattle.tables.specs.Live.{Live, Quiet}
+use Rattle.tables.specs.Cells.{impliedOf}
+use Rattle.tables.specs.Tables.{rowSize, breaksSize}
 use Rattle.sets.specs.Words.{setsSize}
 use Rattle.grammar.specs.Limits.{maxTerminals, maxNonterminals}
 use Prim.Native.Nat.{_+_, _-_, _≤_}
@@ -11,19 +12,19 @@ use Rattle.tables.proofs.holds_breaks.Statement.{statement}
 use Rattle.tables.proofs.holds_breaks.Tie as tie
 
 abbrev Inv-loop : tie.InvT-loop
-Inv-loop sets steps masks t n w row₀ r₀ row r = (length sets ≡ setsSize) × (length masks ≡ predictionsSize) × (t ≤ maxTerminals) × (n ≤ maxNonterminals) × (length w ≡ breaksSize) × (length row ≡ rowSize) × (r ≤ n) × Blank n (t + 1) row × Held (entryOf sets steps masks t) n (t + 1) r w
+Inv-loop sets steps live k t n w row₀ r₀ row r = (length sets ≡ setsSize) × (t ≤ maxTerminals) × (n ≤ maxNonterminals) × (k ≤ length live) × (length w ≡ breaksSize) × (length row ≡ rowSize) × (r ≤ n) × Live steps n (t + 1) n 0 live k × Quiet steps n (t + 1) row × Blank n (t + 1) row × Held (impliedOf sets steps t w) n (t + 1) r w
 
 abbrev μ-loop : tie.MeasureT-loop
-μ-loop sets steps masks t n w row₀ r₀ row r = n - r
+μ-loop sets steps live k t n w row₀ r₀ row r = n - r
 
 zero-requires : tie.Need-zero-requires Inv-loop μ-loop
 zero-requires c κs = search needs
 
 loop-holds : tie.Need-loop-holds Inv-loop μ-loop
-loop-holds c = (search needs, search needs, search needs, search needs, search needs, search needs, search needs, blank-zeros _ _ _ _ (search needs) (c .before .before .zero .ensures), held-none _ _ _ _)
+loop-holds c = (search needs, search needs, search needs, search needs, search needs, search needs, search needs, search needs, quiet-zeros _ _ _ _ _ (c .before .before .zero .ensures), blank-zeros _ _ _ _ (search needs) (c .before .before .zero .ensures), held-none _ _ _ _)
 
-fill-row-requires : tie.Need-fill-row-requires Inv-loop μ-loop
-fill-row-requires c κs = search needs
+imply-row-requires : tie.Need-imply-row-requires Inv-loop μ-loop
+imply-row-requires c κs = search needs
 
 mul-same : tie.Need-mul-same Inv-loop μ-loop
 mul-same c = search needs
@@ -53,13 +54,13 @@ loop-less : tie.Need-loop-less Inv-loop μ-loop
 loop-less c = search needs
 
 loop-again : tie.Need-loop-again Inv-loop μ-loop
-loop-again c = (search needs, search needs, search needs, search needs, search needs, search needs, search needs, blank-more _ _ _ _ _ (search needs) (c .before .before .before .before .before .before .before .before .before .loop .inv .7) (c .before .before .before .before .before .before .fill-row .ensures), held-more _ _ _ _ _ _ _ (c .before .before .before .before .before .before .before .before .before .loop .inv .4) (search needs) (search needs) (search needs) (c .before .before .before .before .before .before .before .before .before .loop .inv .7) (c .before .before .before .before .before .before .fill-row .ensures) (c .before .same .ensures .yes (search needs)) (c .before .before .before .before .before .before .before .before .before .loop .inv .8))
+loop-again c = (search needs, search needs, search needs, search needs, search needs, search needs, search needs, search needs, quiet-more _ _ _ _ _ _ _ _ _ (c .before .before .before .before .before .before .imply-row .ensures), blank-more _ _ _ _ _ (search needs) (c .before .before .before .before .before .before .before .before .before .loop .inv .9) (c .before .before .before .before .before .before .imply-row .ensures), held-more _ _ _ _ _ _ _ (c .before .before .before .before .before .before .before .before .before .loop .inv .4) (search needs) (search needs) (search needs) (c .before .before .before .before .before .before .before .before .before .loop .inv .9) (c .before .before .before .before .before .before .imply-row .ensures) (c .before .same .ensures .yes (search needs)) (c .before .before .before .before .before .before .before .before .before .loop .inv .10))
 
 same-length : tie.Need-same-length Inv-loop μ-loop
 same-length c = search needs
 
 returns : tie.Need-returns Inv-loop μ-loop
-returns c = held-not _ _ _ _ _ _ _ (c .before .before .before .before .before .before .before .before .before .loop .inv .4) (search needs) (search needs) (search needs) (c .before .before .before .before .before .before .before .before .before .loop .inv .7) (c .before .before .before .before .before .before .fill-row .ensures) (c .before .same .ensures .no (search needs))
+returns c = held-not _ _ _ _ _ _ _ (c .before .before .before .before .before .before .before .before .before .loop .inv .4) (search needs) (search needs) (search needs) (c .before .before .before .before .before .before .before .before .before .loop .inv .9) (c .before .before .before .before .before .before .imply-row .ensures) (c .before .same .ensures .no (search needs))
 
 mul-all-zero : tie.Need-mul-all-zero Inv-loop μ-loop
 mul-all-zero c = search needs
@@ -80,7 +81,7 @@ same-length-2 : tie.Need-same-length-2 Inv-loop μ-loop
 same-length-2 c = search needs
 
 returns-2 : tie.Need-returns-2 Inv-loop μ-loop
-returns-2 c = held-all _ _ _ _ _ _ _ (c .before .before .before .loop .inv .4) (search needs) (search needs) (search needs) (c .before .before .before .loop .inv .8) (c .all-zero .ensures) (search needs)
+returns-2 c = held-all _ _ _ _ _ _ _ (c .before .before .before .loop .inv .4) (search needs) (search needs) (search needs) (c .before .before .before .loop .inv .10) (c .all-zero .ensures) (search needs)
 
 pub holds-breaks-spec : {M : Type 1} → statement M
 holds-breaks-spec =
@@ -90,7 +91,7 @@ holds-breaks-spec =
     μ-loop
     zero-requires
     loop-holds
-    fill-row-requires
+    imply-row-requires
     mul-same
     mul-same-2
     add-same

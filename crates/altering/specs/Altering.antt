@@ -1,0 +1,109 @@
+-- The ways through an edit.
+use Prim.Native.Nat.{ℕ, _+_, _-_, _*_, _≤_}
+use mathlib.Core.Path.{_≡_, ap, _∙_}
+use mathlib.Core.List.{List}
+use lib.ListN.{length, getD, take, drop}
+use native.Mathlib.Omega.{arith}
+use Rattle.base.specs.Blocks.{zeros, byte-zeros, part-tail}
+use Rattle.grammar.specs.Grammar.{Grammar}
+use Rattle.grammar.specs.Rows.{grammarIn}
+use Rattle.trees.specs.Area.{Area}
+use Rattle.trees.specs.Nodes.{trees, build, Fed}
+use Rattle.trees.specs.Coded.{nodeSize, nodesFrom, arityIn}
+use Rattle.trees.specs.Spread.{Spread}
+use Rattle.edits.specs.Keeping.{Edit}
+use Rattle.matching.specs.Measure.{treeIn, Built}
+use Rattle.matching.specs.Finding.{Numbers}
+use Rattle.matching.specs.Handing.{Few}
+use Rattle.matching.specs.Through.{Blank, Matching}
+use Rattle.keeping.specs.Matched.{heldFrom, Old, Fit}
+use Rattle.keeping.specs.Marking.{Keeps as Counts}
+use Rattle.keeping.specs.Filling.{Gives}
+use Rattle.altering.specs.declared.Alteration.the-variants as Alteration
+use Rattle.altering.specs.Outcome.{AltersTree}
+use Rattle.altering.specs.Treed.{treed-fits}
+use Rattle.altering.specs.Settling.{Both, both-old, both-new, both-one, both-some, both-numbers, both-fit, both-old-nodes, both-spread, both-fed, both-few, both-alters}
+use Rattle.altering.specs.Parts.{nodes-drop}
+
+-- where an area's header has the number of tokens
+abbrev pub tokensPlace : ℕ
+tokensPlace = 6
+
+-- both trees stand in the buffers, for an edit of these numbers
+pub record Doubled (G : Grammar) (S place removed inserted : ℕ) (tree w : List ℕ) (o k : ℕ) : Type 0 where
+  pub edit : Edit
+  pub numbers : Numbers edit place removed inserted
+  pub both : Both G S edit tree w o k
+
+-- the new tree is laid out, whichever such edit it was
+pub record SettledAll (G : Grammar) (S place removed inserted : ℕ) (tree w : List ℕ) (o k r : ℕ) (tree' : List ℕ) : Type 0 where
+  pub all : (e : Edit) → Numbers e place removed inserted → Both G S e tree w o k → AltersTree G S e tree (Alteration.Altered k r) tree'
+
+-- every entry of zeros is 0
+pub blank-zeros : (ms : List ℕ) (n : ℕ) → ms ≡ zeros n → Blank ms
+blank-zeros ms n e = record { each = λ z. ap (λ (u : List ℕ). getD u z 0) e ∙ byte-zeros n z }
+
+pub first-zero : (ms : List ℕ) (n : ℕ) → ms ≡ zeros n → getD ms 0 0 ≡ 0
+first-zero ms n e = blank-zeros ms n e .each 0
+
+module _ (rows : List ℕ) (t n start count S place removed inserted : ℕ) (tree w : List ℕ) (o k : ℕ) (h : Doubled (grammarIn rows t n start count) S place removed inserted tree w o k) where
+  abbrev G : Grammar
+  G = grammarIn rows t n start count
+
+  -- the numbers are small
+  pub record Small : Type 0 where
+    pub old : o ≤ S
+    pub old-some : 1 ≤ o
+    pub new : k ≤ S
+    pub new-some : 1 ≤ k
+    pub place-few : place ≤ S
+    pub removed-few : removed ≤ S
+    pub inserted-few : inserted ≤ S
+
+  pub small : Small
+  small =
+      let x = both-some rows t n start count S (h .edit) tree w o k (h .both) in
+      let y = both-numbers rows t n start count S (h .edit) tree w o k (h .both) in
+      record {
+        old = treed-fits rows t n start count S tree w o (h .both .old);
+        old-some = x .0;
+        new = h .both .fits;
+        new-some = x .1;
+        place-few = omega (arith, y .0, h .numbers .place-is);
+        removed-few = omega (arith, y .1, h .numbers .removed-is);
+        inserted-few = omega (arith, y .2, h .numbers .inserted-is);
+      }
+
+  pub lists-old : Built rows w o 0
+  lists-old = both-old rows t n start count S (h .edit) tree w o k (h .both)
+
+  pub lists-new : Built rows w k S
+  lists-new = both-new rows t n start count S (h .edit) tree w o k (h .both)
+
+  pub one-root : trees (treeIn rows w k S) ≡ 1
+  one-root = both-one rows t n start count S (h .edit) tree w o k (h .both)
+
+  module _ {ms : List ℕ} (m : Matching rows w o S k place removed inserted ms) (few : Few o ms) where
+    pub slots-fit : Fit S w ms k
+    slots-fit = both-fit rows t n start count S (h .edit) tree w o k (h .both) (h .numbers) m few
+
+    pub slots-old : Old S k ms
+    slots-old = both-old-nodes rows t n start count S (h .edit) tree w o k (h .both) (h .numbers) m few
+
+    module _ {w' part : List ℕ} (g : Gives w S k (heldFrom w ms k 0) w') (p : part ≡ take (length w' - nodeSize * S) (drop (nodeSize * S) w')) where
+      part-is : nodesFrom part k 0 ≡ nodesFrom w' k S
+      part-is = let z : S + 0 ≡ S = omega arith in rw (p, part-tail w' (nodeSize * S)) (nodes-drop w' S k 0 ∙ ap (nodesFrom w' k) z)
+
+      pub laid-spread : Spread S (nodesFrom part k 0)
+      laid-spread = rw part-is (both-spread rows t n start count S (h .edit) tree w o k (h .both) (h .numbers) m few g)
+
+      pub laid-fed : Fed (arityIn rows) (nodesFrom part k 0)
+      laid-fed = rw part-is (both-fed rows t n start count S (h .edit) tree w o k (h .both) (h .numbers) m few g)
+
+      pub settled-all : {tree' : List ℕ} (r : ℕ) → Counts w ms k r → Area S (build (arityIn rows) (nodesFrom part k 0)) tree' → SettledAll G S place removed inserted tree w o k r tree'
+      settled-all {tree'} r c a =
+          let b : Area S (build (arityIn rows) (nodesFrom w' k S)) tree' = rw part-is at a in
+          record { all = λ e s d. both-alters rows t n start count S e tree w o k d s m few g r c b }
+
+      pub settled-few : (r : ℕ) → Counts w ms k r → r ≤ o
+      settled-few r c = both-few rows t n start count S (h .edit) tree w o k (h .both) (h .numbers) m few r c

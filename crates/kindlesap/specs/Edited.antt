@@ -1,0 +1,296 @@
+-- Across calls: an accepted edit leaves a valid tree of the new sentence, which read back returns; an edit's verdict is that of the plain parse, and of the call parse.
+use Prim.Native.Nat.{ℕ, _+_, _*_, _≤_, _<_}
+use mathlib.Core.Path.{_≡_, refl, sym, ap, _∙_, subst}
+use mathlib.Core.Logic.{_↔_}
+use mathlib.Core.List.{List, _++_, append-nil}
+use lib.ListN.{length, take, drop, take-append-drop, drop-of-length-le}
+use lib.Seq.{take-at, drop-at, length-take-le}
+use native.Mathlib.Omega.{arith}
+use Rattle.base.specs.Bytes.{get16}
+use Rattle.base.specs.Choose.{never}
+use Rattle.grammar.specs.Each.{Each, each-join}
+use Rattle.grammar.specs.Grammar.{Grammar}
+use Rattle.grammar.specs.Prediction.{Prepared}
+use Rattle.grammar.specs.Image.{Image}
+use Rattle.grammar.specs.Forest.{Token, Forest, size, yield}
+use Rattle.tables.specs.Tables.{Tables}
+use Rattle.trees.specs.Area.{slotAt, top, Valid}
+use Rattle.walks.specs.Reading.{valid-header}
+use Rattle.plain.specs.Plain.{Verdict, accepted, syntax, noRoom, Parses}
+use Rattle.plain.specs.One.{runs-one}
+use Rattle.plain.specs.Traced.{terminals}
+use Rattle.plain.specs.Tokens.{tokenSize, tokenBytes, Sentence, bad-not-sentence, sentence-one}
+use Rattle.edits.specs.Keeping.{Edit, edited, Node, Keeps, Altered}
+use Rattle.edits.specs.Places.{treeSize}
+use Rattle.edits.specs.Edited.{Trees, altered-trees}
+use Rattle.edits.specs.Before.{before-keeps}
+use Rattle.edits.specs.Untouched.{Written, untouched, untouched-top}
+use Rattle.edits.specs.Giving.{kept-made, holding-held}
+use Rattle.edits.specs.Counts.{kept-given-up}
+use Rattle.sentences.specs.Adding.{length-token-bytes, token-bytes-append}
+use Rattle.sentences.specs.Forming.{editOf}
+use Rattle.sentences.specs.Grounding.{Good, good-of, good-kinds, good-tags, good-linked, each-take, each-drop}
+use Rattle.replies.specs.Reply.{numberOf, placeOf, expectedOf, countsOf}
+use Rattle.replies.specs.declared.Counts.{Counts}
+use Rattle.replies.specs.declared.Reason.{Reason}
+use Rattle.replies.specs.declared.Reply.{Reply}
+use Rattle.replies.specs.declared.Reason.the-variants as reasons
+use Rattle.replies.specs.declared.Reply.the-variants.{Accepted, Refused}
+use Rattle.kindlesap.specs.Judged.{Judged, useless, conflict, fit, Opened, bad-image, good-image, opened-fit}
+use Rattle.kindlesap.specs.Parse.{workAreas, Sized, sized-one, Fits, ParseOutcome, stored-parses}
+use Rattle.kindlesap.specs.Parse as parse
+use Rattle.kindlesap.specs.ReadBack.{readCounts, needed, returned, ReadOutcome, read-one}
+use Rattle.kindlesap.specs.Edit.{editCounts, Edits, wrong-tables, no-tree, short-work, bad-token, beyond, wrong-syntax, no-room, altered, EditOutcome, tokens-one, altered-parses, same-parse}
+
+-- ---- after an accepted edit
+
+-- the area is a valid tree again, in as many slots; its tokens are the old ones with the run replaced; its counts add up
+pub record Renewed (image tree : List ℕ) (place removed : ℕ) (tokens : List ℕ) (c : Counts) (tree' : List ℕ) : Type 0 where
+  pub grammar : Grammar
+  pub prepared : Prepared grammar
+  pub reads : Image image grammar
+  pub slots : ℕ
+  pub old : Valid grammar slots tree
+  pub new : Valid grammar slots tree'
+  pub inserted : List Token
+  pub sentence : Sentence (grammar .t) tokens inserted
+  pub within : place + removed ≤ length (yield (old .tree))
+  pub yields : yield (new .tree) ≡ edited (editOf place removed inserted) (yield (old .tree))
+  pub slotted : Altered grammar slots (editOf place removed inserted) (old .tree) (new .tree) (c .kept) (c .made) (c .«given_up»)
+  -- "Total is the number of nodes in the stored tree"
+  pub total : c .total ≡ size (new .tree)
+  pub kept-and-made : c .kept + c .made ≡ c .total
+  pub kept-and-given-up : c .kept + c .«given_up» ≡ size (old .tree)
+
+pub edit-renews : {image tables tree tokens work tree' work' : List ℕ} {place removed : ℕ} {r : Reply} (c : Counts) → EditOutcome image tables tree place removed tokens work r tree' work' → r ≡ Accepted c
+    → Renewed image tree place removed tokens c tree'
+edit-renews {image} {tables} {tree} {tokens} {work} {place = place} {removed} c h e = go (h .opened) e
+  where
+    changed : {G : Grammar} {r : Reply} {v : List ℕ} → Image image G → Prepared G → Edits tables tokens place removed (length work) tree G r v → r ≡ Accepted c → Renewed image tree place removed tokens c v
+    changed i g (wrong-tables n) e = never (cc)
+    changed i g (no-tree t n) e = never (cc)
+    changed i g (short-work t v l) e = never (cc)
+    changed i g (bad-token t v l b) e = never (cc)
+    changed i g (beyond t v l s o) e = never (cc)
+    changed i g (wrong-syntax t v l s o p) e = never (cc)
+    changed i g (no-room t v l s o p) e = never (cc)
+    changed {G} i g (altered {S = S} {kept = kept} {made = made} {up = up} {w = w} new t v l s o p a) e =
+        let q : editCounts (size new) kept made up ≡ c = cc in
+        let n = ap (λ (x : Counts). x .total) q in
+        let k = ap (λ (x : Counts). x .kept) q in
+        let m = ap (λ (x : Counts). x .made) q in
+        let u = ap (λ (x : Counts). x .«given_up») q in
+        let x : kept + made ≡ size new = omega (arith, p .kept-count, p .made-count, kept-made (p .held), p .holding .long) in
+        let y : kept + up ≡ size (v .tree) = omega (arith, p .kept-count, kept-given-up (v .area) (holding-held g (p .derives) (v .area) (p .holding)) (p .holding) (p .given-up)) in
+        record {
+          grammar = G;
+          prepared = g;
+          reads = i;
+          slots = S;
+          old = v;
+          new = record { some = v .some; few = v .few; tree = new; derives = p .derives; area = a };
+          inserted = w;
+          sentence = s;
+          within = o;
+          yields = p .yields;
+          slotted = rw (k, m, u) at p;
+          total = sym n;
+          kept-and-made = omega (arith, x, n, k, m);
+          kept-and-given-up = omega (arith, y, k, u);
+        }
+
+    judged : {G : Grammar} {r : Reply} {v : List ℕ} → Image image G → Judged G (Edits tables tokens place removed (length work) tree G) tree r v → r ≡ Accepted c
+        → Renewed image tree place removed tokens c v
+    judged i (useless x) e = never (cc)
+    judged i (conflict n x) e = never (cc)
+    judged i (fit p q) e = changed i p q e
+
+    go : {r : Reply} {v : List ℕ} → Opened image (Edits tables tokens place removed (length work) tree) tree r v → r ≡ Accepted c → Renewed image tree place removed tokens c v
+    go (bad-image x) e = never (cc)
+    go (good-image i j) e = judged i j e
+
+-- ---- read back of the new tree
+
+-- bytes of tokens with the run of tokens replaced
+abbrev pub replaced : List ℕ → ℕ → ℕ → List ℕ → List ℕ
+replaced old place removed tokens = take (tokenSize * place) old ++ (tokens ++ drop (tokenSize * (place + removed)) old)
+
+module _ (w : List Token) (k : ℕ) (l : k ≤ length w) where
+  parted : tokenBytes w ≡ tokenBytes (take k w) ++ tokenBytes (drop k w)
+  parted = ap tokenBytes (sym (take-append-drop k w)) ∙ token-bytes-append (take k w) (drop k w)
+
+  counted : length (tokenBytes (take k w)) ≡ tokenSize * k
+  counted = omega (arith, length-token-bytes (take k w), length-take-le k w l)
+
+  take-bytes : take (tokenSize * k) (tokenBytes w) ≡ tokenBytes (take k w)
+  take-bytes = rw parted (take-at (tokenBytes (take k w)) (tokenBytes (drop k w)) (tokenSize * k) counted)
+
+  drop-bytes : drop (tokenSize * k) (tokenBytes w) ≡ tokenBytes (drop k w)
+  drop-bytes = rw parted (drop-at (tokenBytes (take k w)) (tokenBytes (drop k w)) (tokenSize * k) counted)
+
+-- they are the bytes of the new sentence
+replaced-bytes : (place removed : ℕ) (w ins : List Token) → place + removed ≤ length w → replaced (tokenBytes w) place removed (tokenBytes ins) ≡ tokenBytes (edited (editOf place removed ins) w)
+replaced-bytes place removed w ins l =
+    rw (take-bytes w place (omega arith), drop-bytes w (place + removed) l, token-bytes-append (take place w) (ins ++ drop (place + removed) w), token-bytes-append ins (drop (place + removed) w))
+
+module _ {image tables tree tokens work tree' work' before old : List ℕ} {place removed : ℕ} {r r₀ : Reply} (c : Counts) (h : EditOutcome image tables tree place removed tokens work r tree' work') (e : r ≡ Accepted c)
+    (back : ReadOutcome image tree before r₀ old) (whole : length before ≡ tokenSize * get16 tree 6) (output : List ℕ) (l : length (replaced old place removed tokens) ≤ length output) where
+  abbrev x : Renewed image tree place removed tokens c tree'
+  x = edit-renews c h e
+
+  old-bytes : old ≡ tokenBytes (yield (x .old .tree))
+  old-bytes =
+      let f : Forest = x .old .tree in
+      let n : needed f ≡ length before = let y = valid-header (x .old) .tokens in omega (arith, y, whole) in
+      let z : ReadOutcome image tree before (Accepted (readCounts (size f))) (tokenBytes (yield f) ++ drop (needed f) before) = good-image (x .reads) (fit (x .prepared) (returned (x .old) (omega (arith, n)))) in
+      read-one back z .1 ∙ rw (n, drop-of-length-le before {i = length before} (omega arith), append-nil (tokenBytes (yield f)))
+
+  new-bytes : replaced old place removed tokens ≡ tokenBytes (yield (x .new .tree))
+  new-bytes =
+      let u : replaced old place removed tokens ≡ replaced (tokenBytes (yield (x .old .tree))) place removed (tokenBytes (x .inserted)) = ap (λ (b : List ℕ). replaced b place removed tokens) old-bytes ∙ ap (replaced (tokenBytes (yield (x .old .tree))) place removed) (x .sentence .is) in
+      u ∙ replaced-bytes place removed (yield (x .old .tree)) (x .inserted) (x .within) ∙ ap tokenBytes (sym (x .yields))
+
+  -- where read back gave the old tree's tokens, into an output of just their length, read back of the new tree gives the same tokens with the run replaced
+  pub edit-read-back : ReadOutcome image tree' output (Accepted (readCounts (c .total))) (replaced old place removed tokens ++ drop (length (replaced old place removed tokens)) output)
+  edit-read-back =
+      let f : Forest = x .new .tree in
+      let k : needed f ≡ length (replaced old place removed tokens) = sym (ap length new-bytes ∙ length-token-bytes (yield f)) in
+      let z : ReadOutcome image tree' output (Accepted (readCounts (size f))) (tokenBytes (yield f) ++ drop (needed f) output) = good-image (x .reads) (fit (x .prepared) (returned (x .new) (omega (arith, k, l)))) in
+      rw (← x .total, ← new-bytes, k) at z
+
+  -- and nothing else
+  pub edit-read-back-one : {r' : Reply} {output' : List ℕ} → ReadOutcome image tree' output r' output'
+      → (r' ≡ Accepted (readCounts (c .total))) × (output' ≡ replaced old place removed tokens ++ drop (length (replaced old place removed tokens)) output)
+  edit-read-back-one k = read-one k edit-read-back
+
+-- ---- what an accepted edit leaves as it was
+
+module _ {image tree tokens tree' : List ℕ} {place removed : ℕ} {c : Counts} (h : Renewed image tree place removed tokens c tree') where
+  abbrev the-edit : Edit
+  the-edit = editOf place removed (h .inserted)
+
+  both-trees : Trees (h .grammar) the-edit (h .old .tree) (h .new .tree)
+  both-trees = altered-trees (h .prepared) (h .old .derives) (h .within) (h .slotted)
+
+  -- every node that starts before the place keeps its slot, and its number
+  pub edit-before : {a q m t : ℕ} {f : Forest} → Node (h .old .tree) a q m t f → t < place → Keeps the-edit (h .old .tree) (h .new .tree) a a
+  edit-before o l = before-keeps both-trees o l
+
+  -- a kept node that starts after the removed run
+  module _ {a' q' m' t' a q m t : ℕ} {f' f : Forest} (k : Keeps the-edit (h .old .tree) (h .new .tree) a' a) (n : Node (h .new .tree) a' q' m' t' f') (o : Node (h .old .tree) a q m t f)
+      (l : place + removed ≤ t) where
+    -- in its own slot only the parent and the next sibling may change
+    pub edit-top : Written tree f × Written tree' f
+    edit-top = untouched-top both-trees (h .slotted) (h .old .area) (h .new .area) k n o l
+
+    -- "below such a subtree's top no byte changes"
+    pub edit-untouched : {d q₁ m₁ t₁ : ℕ} {f₁ : Forest} → 0 < d → d < treeSize f → Node (h .old .tree) (a + d) q₁ m₁ t₁ f₁ → slotAt tree' (top f₁) ≡ slotAt tree (top f₁)
+    edit-untouched i j x = untouched both-trees (h .slotted) (h .old .area) (h .new .area) k n o l i j x
+
+-- a refusal leaves the tree as it was
+pub edit-refused : {image tables tree tokens work tree' work' : List ℕ} {place removed : ℕ} {r : Reply} (x : Reason) → EditOutcome image tables tree place removed tokens work r tree' work' → r ≡ Refused x → tree' ≡ tree
+edit-refused {image} {tables} {tree} {tokens} {work} {place = place} {removed} x h e = go (h .opened) e
+  where
+    unchanged : {G : Grammar} {r : Reply} {v : List ℕ} → Edits tables tokens place removed (length work) tree G r v → r ≡ Refused x → v ≡ tree
+    unchanged (wrong-tables n) e = refl
+    unchanged (no-tree t n) e = refl
+    unchanged (short-work t v l) e = refl
+    unchanged (bad-token t v l b) e = refl
+    unchanged (beyond t v l s o) e = refl
+    unchanged (wrong-syntax t v l s o p) e = refl
+    unchanged (no-room t v l s o p) e = refl
+    unchanged (altered new t v l s o p a) e = never (cc)
+
+    judged : {G : Grammar} {r : Reply} {v : List ℕ} → Judged G (Edits tables tokens place removed (length work) tree G) tree r v → r ≡ Refused x → v ≡ tree
+    judged (useless y) e = refl
+    judged (conflict n y) e = refl
+    judged (fit p q) e = unchanged q e
+
+    go : {r : Reply} {v : List ℕ} → Opened image (Edits tables tokens place removed (length work) tree) tree r v → r ≡ Refused x → v ≡ tree
+    go (bad-image y) e = refl
+    go (good-image i j) e = judged j e
+
+-- ---- the plain parse decides
+
+-- the reply that a verdict comes to
+pub data Answers : Verdict → Reply → Type 0 where
+  yes : {n : ℕ} {c : Counts} → c .total ≡ n → Answers (accepted n) (Accepted c)
+  nine : {i e : ℕ} → Answers (syntax i e) (Refused (reasons.Syntax i e))
+  ten : Answers noRoom (Refused reasons.NoRoom)
+
+answers-one : {u u' : Verdict} {r : Reply} → Answers u r → Answers u' r → u ≡ u'
+answers-one (Answers.yes e) (Answers.yes e') = ap accepted (sym e ∙ e')
+answers-one Answers.nine Answers.nine = refl
+answers-one Answers.ten Answers.ten = refl
+
+-- the same number, place, expected set and total
+pub record Alike (r r' : Reply) : Type 0 where
+  pub number : numberOf r ≡ numberOf r'
+  pub place : placeOf r ≡ placeOf r'
+  pub expected : expectedOf r ≡ expectedOf r'
+  pub total : countsOf r .total ≡ countsOf r' .total
+
+answers-alike : {u : Verdict} {r r' : Reply} → Answers u r → Answers u r' → Alike r r'
+answers-alike (Answers.yes e) (Answers.yes e') = record { number = refl; place = refl; expected = refl; total = e ∙ sym e' }
+answers-alike Answers.nine Answers.nine = record { number = refl; place = refl; expected = refl; total = refl }
+answers-alike Answers.ten Answers.ten = record { number = refl; place = refl; expected = refl; total = refl }
+
+-- a verdict, and the reply that it comes to
+record Answered (G : Grammar) (S : ℕ) (w : List Token) (r : Reply) : Type 0 where
+  verdict : Verdict
+  parses : Parses G S w verdict
+  answers : Answers verdict r
+
+answered-exactly : {G : Grammar} {S : ℕ} {w : List Token} {r : Reply} → Prepared G → Answered G S w r → (u : Verdict) → Parses G S w u ↔ Answers u r
+answered-exactly {G} {S} {w} {r} g a u = (
+  λ p. subst (λ (v : Verdict). Answers v r) (runs-one g (a .parses) p) (a .answers),
+  λ b. subst (λ (v : Verdict). Parses G S w v) (answers-one (a .answers) b) (a .parses),
+)
+
+module _ {G : Grammar} (g : Prepared G) (place removed : ℕ) {S : ℕ} {image tables tree tokens : List ℕ} {w : List Token} (i : Image image G) (t : Tables G tables) (v : Valid G S tree) (s : Sentence (G .t) tokens w)
+    (o : place + removed ≤ length (yield (v .tree))) where
+  abbrev sentence : List Token
+  sentence = edited (editOf place removed w) (yield (v .tree))
+
+  edits-answered : {room : ℕ} {r : Reply} {tree' : List ℕ} → workAreas * length tree ≤ room → Edits tables tokens place removed room tree G r tree' → Answered G S sentence r
+  edits-answered l (wrong-tables n) = absurd (n t)
+  edits-answered l (no-tree t' n) = absurd (n S v)
+  edits-answered l (short-work t' v' l') = absurd (omega (arith, l, l'))
+  edits-answered l (bad-token t' v' l' b) = absurd (bad-not-sentence b s)
+  edits-answered l (beyond t' v' l' s' o') = absurd (omega (arith, o, o', tokens-one v v'))
+  edits-answered l (wrong-syntax {i = k} {e = e} t' v' l' s' o' p) = record { verdict = syntax k e; parses = same-parse place removed v v' s s' p; answers = Answers.nine }
+  edits-answered l (no-room t' v' l' s' o' p) = record { verdict = noRoom; parses = same-parse place removed v v' s s' p; answers = Answers.ten }
+  edits-answered l (altered new t' v' l' s' o' p a) = record { verdict = accepted (size new); parses = same-parse place removed v v' s s' (altered-parses (v' .some) p); answers = Answers.yes refl }
+
+  -- an edit's reply, place, expected set and total are those of the plain parse of the new sentence into as many slots
+  pub edit-plain : {work tree' work' : List ℕ} {r : Reply} → workAreas * length tree ≤ length work → EditOutcome image tables tree place removed tokens work r tree' work'
+      → (u : Verdict) → Parses G S sentence u ↔ Answers u r
+  edit-plain l h = answered-exactly g (edits-answered l (opened-fit i g (h .opened)))
+
+  -- the new sentence has bytes
+  pub sentence-bytes : Sentence (G .t) (tokenBytes sentence) sentence
+  sentence-bytes =
+      let old : Each (Good (G .t)) (yield (v .tree)) = good-of (yield (v .tree)) (terminals (v .derives)) (good-linked (v .area .linked)) in
+      let new : Each (Good (G .t)) sentence =
+      each-join (each-take place (yield (v .tree)) old) (each-join (good-of w (s .kinds) (s .tags)) (each-drop (place + removed) (yield (v .tree)) old)) in
+      record { is = refl; kinds = good-kinds sentence new; tags = good-tags sentence new }
+
+  -- ---- and those of the call parse
+
+  fits-answered : {room : ℕ} {b area area' : List ℕ} {r : Reply} → Sized S area → workAreas * length area ≤ room → Sentence (G .t) b sentence → Fits tables b room area G r area' → Answered G S sentence r
+  fits-answered z l k (parse.wrong-tables n) = absurd (n t)
+  fits-answered z l k (parse.wrong-area t' n) = absurd (n S z)
+  fits-answered z l k (parse.short-work t' z' l') = absurd (omega (arith, l, l'))
+  fits-answered z l k (parse.bad-token t' z' l' b) = absurd (bad-not-sentence b k)
+  fits-answered z l k (parse.wrong-syntax {i = j} {e = e} t' z' l' k' p) = record { verdict = syntax j e; parses = rw (sized-one z' z, sentence-one k' k) at p; answers = Answers.nine }
+  fits-answered z l k (parse.no-room t' z' l' k' p) = record { verdict = noRoom; parses = rw (sized-one z' z, sentence-one k' k) at p; answers = Answers.ten }
+  fits-answered z l k (parse.stored f t' z' l' k' p a) =
+      record { verdict = accepted (size f); parses = rw (sized-one z' z, sentence-one k' k) at (stored-parses g (z' .some) p); answers = Answers.yes refl }
+
+  -- parse of the new sentence's bytes, into any area of that length, has the same number, place, expected set and total
+  pub edit-as-parse : {work tree' work' b area room area' room' : List ℕ} {r r' : Reply} → workAreas * length tree ≤ length work → EditOutcome image tables tree place removed tokens work r tree' work'
+      → Sized S area → workAreas * length area ≤ length room → Sentence (G .t) b sentence → ParseOutcome image tables b area room r' area' room' → Alike r r'
+  edit-as-parse {r' = r'} l h z m k o =
+      let a = edits-answered l (opened-fit i g (h .opened)) in
+      let c = fits-answered z m k (opened-fit i g (o .opened)) in
+      answers-alike (a .answers) (subst (λ (u : Verdict). Answers u r') (runs-one g (c .parses) (a .parses)) (c .answers))
