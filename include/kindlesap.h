@@ -3,7 +3,8 @@
  *
  * Every call takes whatever bytes it is given, checks them itself, ends, and writes one of the replies below. It keeps no memory of its own:
  * the caller lends every buffer, as a pointer and a length in bytes, and has it back when the call returns: nothing of it is kept. Lent
- * buffers must not overlap. They may stand at any address; one of length 0 may come with any pointer, NULL too.
+ * buffers must not overlap. They may stand at any address; one of length 0 may come with any pointer, NULL too. What else a call needs is on the
+ * stack, less than 64 KiB of it.
  *
  * The calls of one editor: prepare once for a grammar, parse to open a sentence, then edit and read back as often as it likes. The grammar image
  * and the tables go unaltered into each call that takes them. The tree area is all that is known of the sentence; it holds no pointers, so that

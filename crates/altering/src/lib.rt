@@ -32,7 +32,7 @@ pub enum Alteration {
     NoRoom,
 }
 
-// Gives the k nodes of the new tree, which stand in the work area behind the slots' room for the o nodes of the old one, their slots, and lays them out; how many are kept.
+// Gives the k nodes of the new tree their slots and lays them out; how many are kept. They stand in the work area behind room for `slots` nodes of the old tree, which has o.
 fn settle(
     rows: &[u8],
     t: usize,

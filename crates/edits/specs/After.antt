@@ -9,9 +9,10 @@ use native.Mathlib.Omega.{arith}
 use Rattle.grammar.specs.Grammar.{Grammar}
 use Rattle.grammar.specs.Forest.{Token, Forest, size, yield}
 use Rattle.plain.specs.Traced.{Same}
+use Rattle.plain.specs.Alike.{same-yield, same-size}
 use Rattle.edits.specs.Keeping.{Edit, Kept, before, after, symbol, own, below, beside, At, here, inside, past-leaf, past-node, Node, Keeps}
 use Rattle.edits.specs.Places.{tokens, treeSize, at-number, at-some, at-one, at-below}
-use Rattle.edits.specs.Guided.{Guided, Agree, agree-self, guided-same, void-same, same-yield, same-size}
+use Rattle.edits.specs.Guided.{Guided, Agree, agree-self, guided-same, void-same}
 use Rattle.edits.specs.Stems.{topped, from-node}
 use Rattle.edits.specs.Edited.{Trees, same-after}
 use Rattle.edits.specs.Productions.{keeps-same}

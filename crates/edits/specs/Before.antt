@@ -9,9 +9,10 @@ use native.Mathlib.Omega.{arith}
 use Rattle.grammar.specs.Grammar.{Grammar}
 use Rattle.grammar.specs.Prediction.{Prepared}
 use Rattle.grammar.specs.Forest.{Token, Forest, size, yield}
+use Rattle.plain.specs.Alike.{same-yield, same-size}
 use Rattle.edits.specs.Keeping.{Edit, before, symbol, own, production, At, here, inside, past-leaf, past-node, Node, Keeps}
 use Rattle.edits.specs.Places.{tokens, Side, Parent, at-token, at-below-parent, at-up}
-use Rattle.edits.specs.Guided.{Guided, Agree, agree-ahead, guided-tree, predicts-one, guided-same, same-yield, same-size}
+use Rattle.edits.specs.Guided.{Guided, Agree, agree-ahead, guided-tree, predicts-one, guided-same}
 use Rattle.edits.specs.Stems.{Both, both-some, stem-same}
 use Rattle.edits.specs.Edited.{Trees, agree-before}
 

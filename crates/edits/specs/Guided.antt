@@ -11,7 +11,7 @@ use Rattle.grammar.specs.Rules.{rule-one, rule-left}
 use Rattle.grammar.specs.Derivation.{at, Steps, stop, then, Follow}
 use Rattle.grammar.specs.Prediction.{Predicts, by-follow, Prepared}
 use Rattle.grammar.specs.Single.{ll1-one}
-use Rattle.grammar.specs.Forest.{Token, kinds, Forest, size, yield, Derives}
+use Rattle.grammar.specs.Forest.{Token, kinds, Forest, yield, Derives}
 use Rattle.grammar.specs.Trees.{kinds-append, trans, steps-in, steps-of}
 use Rattle.plain.specs.Plain.{ahead}
 use Rattle.plain.specs.Traced.{Same, front-append, follows, terminals, predicted}
@@ -137,17 +137,3 @@ module _ {G : Grammar} (g : Prepared G) where
       let o : p ≡ q = void-production g l r r' (guided-derives gk) (guided-derives gk') (none-yield (yield k) a) (none-yield (yield k') a') in
       let x = void-same gk (subst (λ (δ : List ℕ). Guided G (yield f' ++ v) δ k') (rule-one r' (rw o at r) .1) gk') a a' in
       rw (← o) (Same.node x (void-same d d' (omega arith) (omega arith)))
-
--- ---- forests that differ in slots only
-
--- they have the same tokens
-pub same-yield : {f f' : Forest} → Same f f' → yield f ≡ yield f'
-same-yield Same.nil = refl
-same-yield (Same.leaf h) = rw (same-yield h)
-same-yield (Same.node h i) = rw (same-yield h, same-yield i)
-
--- and as many nodes
-pub same-size : {f f' : Forest} → Same f f' → size f ≡ size f'
-same-size Same.nil = refl
-same-size (Same.leaf h) = ap suc (same-size h)
-same-size (Same.node h i) = omega (arith, same-size h, same-size i)

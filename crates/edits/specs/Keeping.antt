@@ -91,7 +91,7 @@ pub record Holding (e : Edit) (old new : Forest) (hs : List ℕ) : Type 0 where
   pub each : (i : ℕ) → i < size new → Holds e old new (suc i) (getD hs i 0)
 
 -- "New nodes, in preorder, take the lowest-numbered slots that no kept node holds; given-up slots count as free":
--- of the slots that are held or, where there is 0, to be given, those given, where the slots below s are no longer to be had
+-- hs has the slot that each node keeps, or 0, and ss the slot that it gets; a new node looks for a slot from s on
 pub data Given (held : List ℕ) : ℕ → List ℕ → List ℕ → Type 0 where
   nil : {s : ℕ} → Given held s [] []
   kept : {s x : ℕ} {hs ss : List ℕ} → 1 ≤ x → Given held s hs ss → Given held s (x ∷ hs) (x ∷ ss)
@@ -100,7 +100,7 @@ pub data Given (held : List ℕ) : ℕ → List ℕ → List ℕ → Type 0 wher
 
 -- ---- the counts
 
--- how many nodes of the new tree hold a slot of the old one, and how many don't
+-- how many nodes of the new tree keep a slot, and how many don't
 abbrev pub keptOf : List ℕ → ℕ
 keptOf [] = 0
 keptOf (zero ∷ hs) = keptOf hs
@@ -111,7 +111,7 @@ madeOf [] = 0
 madeOf (zero ∷ hs) = suc (madeOf hs)
 madeOf (suc s ∷ hs) = madeOf hs
 
--- "All others are given up": of the old tree's slots, how many no node holds
+-- "All others are given up": of the old tree's slots, how many no kept node holds
 pub data GivenUp (held : List ℕ) : List ℕ → ℕ → Type 0 where
   nil : GivenUp held [] 0
   kept : {s n : ℕ} {ss : List ℕ} → List·Memᴰ s held → GivenUp held ss n → GivenUp held (s ∷ ss) n

@@ -2,7 +2,7 @@
 use Prim.Native.Nat.{ℕ, zero, suc, _+_, _-_, _≤_, _<_}
 use mathlib.Core.Path.{_≡_, refl, sym, ap, _∙_, subst}
 use mathlib.Core.List.{List, [], _∷_, _++_}
-use lib.ListN.{length, getD, length-append, List·getD-append}
+use lib.ListN.{length, getD, List·getD-append}
 use lib.Seq.{getD-append-add}
 use native.Mathlib.Omega.{arith}
 use Rattle.grammar.specs.Each.{each-at}
@@ -10,40 +10,24 @@ use Rattle.grammar.specs.Grammar.{Grammar}
 use Rattle.grammar.specs.Prediction.{Prepared}
 use Rattle.grammar.specs.Forest.{Forest, size, Derives}
 use Rattle.trees.specs.Area.{slotAt, slotBytes, top, slots, Linked, Area}
+use Rattle.trees.specs.Spread.{length-slots}
 use Rattle.plain.specs.Traced.{Same}
+use Rattle.plain.specs.Alike.{same-size}
 use Rattle.edits.specs.Keeping.{Edit, symbol, production, below, At, here, inside, past-leaf, past-node, Node, Keeps, Holds, Holding, Given, Altered}
 use Rattle.edits.specs.Places.{treeSize, at-number, at-some, at-one, at-node, at-below}
-use Rattle.edits.specs.Guided.{same-size}
+use Rattle.edits.specs.Giving.{at-slot}
 use Rattle.edits.specs.One.{keeps-one}
 use Rattle.edits.specs.Edited.{Trees}
 use Rattle.edits.specs.After.{first, first-below, tree-size, Carried, carried-keeps, after-carries}
 
 -- ---- the slots of nodes
 
--- as many as nodes
-length-slots : (F : Forest) → length (slots F) ≡ size F
-length-slots Forest.nil = refl
-length-slots (Forest.leaf s a g r) = ap suc (length-slots r)
-length-slots (Forest.node s M p k r) = omega (arith, length-append (slots k) (slots r), length-slots k, length-slots r)
-
 -- the slot of node a stands in its place in the list of slots
-pub at-slot : {i par n j a q m t : ℕ} {F f : Forest} (c : ℕ) → At i par n j F a q m t f → a ≡ i + c → getD (slots F) c 0 ≡ top f
-at-slot {F = F} c (here x y z w l) e = let v : c ≡ 0 = omega arith in rw v (go F l)
-  where
-    go : (F : Forest) → 1 ≤ size F → getD (slots F) 0 0 ≡ top F
-    go Forest.nil l = absurd (omega arith)
-    go (Forest.leaf s a g r) l = refl
-    go (Forest.node s M p k r) l = refl
-at-slot zero (inside h) e = absurd (omega (arith, at-number h .0))
-at-slot (suc c) (inside {k = k} {r = r} h) e =
-    List·getD-append (slots k) (slots r) 0 c (omega (arith, at-number h .1, length-slots k)) ∙ at-slot c h (omega arith)
-at-slot zero (past-leaf h) e = absurd (omega (arith, at-number h .0))
-at-slot (suc c) (past-leaf h) e = at-slot c h (omega arith)
-at-slot zero (past-node h) e = absurd (omega (arith, at-number h .0))
-at-slot (suc c) (past-node {k = k} {r = r} h) e =
-    let x = at-number h .0 in
-    let z : c ≡ length (slots k) + (c - size k) = omega (arith, length-slots k) in
-    ap (λ (i : ℕ). getD (slots k ++ slots r) i 0) z ∙ getD-append-add (slots k) (slots r) (c - size k) 0 ∙ at-slot (c - size k) h (omega arith)
+slot-at : {i par n j a q m t : ℕ} {F f : Forest} (c : ℕ) → At i par n j F a q m t f → a ≡ i + c → getD (slots F) c 0 ≡ top f
+slot-at {F = F} c h e =
+    let o = at-slot h in
+    let z : c ≡ o .place = omega (arith, o .number) in
+    ap (λ (x : ℕ). getD (slots F) x 0) z ∙ o .is
 
 -- what is held is given
 given-held : {held hs ss : List ℕ} {s : ℕ} (c : ℕ) → Given held s hs ss → 1 ≤ getD hs c 0 → getD ss c 0 ≡ getD hs c 0
@@ -69,7 +53,7 @@ module _ {G : Grammar} (g : Prepared G) {e : Edit} {old new : Forest} (d : Deriv
       let i = a' - 1 in
       let z : suc i ≡ a' = omega arith in
       let h : getD held i 0 ≡ top f = holds-slot (u .each i (omega arith)) (rw z k) o in
-      sym (at-slot i n (omega arith)) ∙ given-held i v (omega arith) ∙ h
+      sym (slot-at i n (omega arith)) ∙ given-held i v (omega arith) ∙ h
 
 -- forests that differ in slots only, and not in these either
 same-equal : {f f' : Forest} → Same f f' → ((c : ℕ) → c < size f → getD (slots f) c 0 ≡ getD (slots f') c 0) → f ≡ f'
@@ -152,7 +136,7 @@ module _ {G : Grammar} {S kept made up : ℕ} {e : Edit} {old new : Forest} {b b
   kept-top {a = a} k n o =
       let l = at-number o in
       let x = each-at (slots old) (a - 1) (area .within) (omega (arith, length-slots old)) in
-      let y = at-slot (a - 1) o (omega arith) in
+      let y = slot-at (a - 1) o (omega arith) in
       kept-slot (h .prepared) (h .first) (w .holding) (w .given) k n o (omega (arith, x .0, y))
 
   -- what is below a node that is carried along is the same in both trees, slots and all
@@ -169,7 +153,7 @@ module _ {G : Grammar} {S kept made up : ℕ} {e : Edit} {old new : Forest} {b b
           let u : a' + suc i ≡ suc a' + i = omega arith in
           let v : a + suc i ≡ suc a + i = omega arith in
           let k : Keeps e old new (suc a' + i) (suc a + i) = rw (← u, ← v) (c .each (suc i) (omega (arith, tree-more f (omega arith)))) in
-          at-slot i (x .node) refl ∙ sym (kept-top k (at-below n (y .node)) (at-below o (x .node))) ∙ sym (at-slot i (y .node) refl)
+          slot-at i (x .node) refl ∙ sym (kept-top k (at-below n (y .node)) (at-below o (x .node))) ∙ sym (slot-at i (y .node) refl)
 
   -- in its own slot only the parent and the next sibling may change
   pub carried-top : {a' q' m' t' a q m t : ℕ} {f' f : Forest} → Carried e old new a' f' a f → Node new a' q' m' t' f' → Node old a q m t f → Written b f × Written b' f

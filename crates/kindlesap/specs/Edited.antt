@@ -1,5 +1,5 @@
 -- Across calls: an accepted edit leaves a valid tree of the new sentence, which read back returns; an edit's verdict is that of the plain parse, and of the call parse.
-use Prim.Native.Nat.{ℕ, _+_, _*_, _≤_}
+use Prim.Native.Nat.{ℕ, _+_, _*_, _≤_, _<_}
 use mathlib.Core.Path.{_≡_, refl, sym, ap, _∙_, subst}
 use mathlib.Core.Logic.{_↔_}
 use mathlib.Core.List.{List, _++_, append-nil}
@@ -14,13 +14,17 @@ use Rattle.grammar.specs.Prediction.{Prepared}
 use Rattle.grammar.specs.Image.{Image}
 use Rattle.grammar.specs.Forest.{Token, Forest, size, yield}
 use Rattle.tables.specs.Tables.{Tables}
-use Rattle.trees.specs.Area.{Valid}
+use Rattle.trees.specs.Area.{slotAt, top, Valid}
 use Rattle.walks.specs.Reading.{valid-header}
 use Rattle.plain.specs.Plain.{Verdict, accepted, syntax, noRoom, Parses}
 use Rattle.plain.specs.One.{runs-one}
 use Rattle.plain.specs.Traced.{terminals}
 use Rattle.plain.specs.Tokens.{tokenSize, tokenBytes, Sentence, bad-not-sentence, sentence-one}
-use Rattle.edits.specs.Keeping.{edited}
+use Rattle.edits.specs.Keeping.{Edit, edited, Node, Keeps, Altered}
+use Rattle.edits.specs.Places.{treeSize}
+use Rattle.edits.specs.Edited.{Trees, altered-trees}
+use Rattle.edits.specs.Before.{before-keeps}
+use Rattle.edits.specs.Untouched.{Written, untouched, untouched-top}
 use Rattle.edits.specs.Giving.{kept-made, holding-held}
 use Rattle.edits.specs.Counts.{kept-given-up}
 use Rattle.sentences.specs.Adding.{length-token-bytes, token-bytes-append}
@@ -28,6 +32,7 @@ use Rattle.sentences.specs.Forming.{editOf}
 use Rattle.sentences.specs.Grounding.{Good, good-of, good-kinds, good-tags, good-linked, each-take, each-drop}
 use Rattle.replies.specs.Reply.{numberOf, placeOf, expectedOf, countsOf}
 use Rattle.replies.specs.declared.Counts.{Counts}
+use Rattle.replies.specs.declared.Reason.{Reason}
 use Rattle.replies.specs.declared.Reply.{Reply}
 use Rattle.replies.specs.declared.Reason.the-variants as reasons
 use Rattle.replies.specs.declared.Reply.the-variants.{Accepted, Refused}
@@ -51,6 +56,7 @@ pub record Renewed (image tree : List ℕ) (place removed : ℕ) (tokens : List 
   pub sentence : Sentence (grammar .t) tokens inserted
   pub within : place + removed ≤ length (yield (old .tree))
   pub yields : yield (new .tree) ≡ edited (editOf place removed inserted) (yield (old .tree))
+  pub slotted : Altered grammar slots (editOf place removed inserted) (old .tree) (new .tree) (c .kept) (c .made) (c .«given_up»)
   -- "Total is the number of nodes in the stored tree"
   pub total : c .total ≡ size (new .tree)
   pub kept-and-made : c .kept + c .made ≡ c .total
@@ -87,6 +93,7 @@ edit-renews {image} {tables} {tree} {tokens} {work} {place = place} {removed} c 
           sentence = s;
           within = o;
           yields = p .yields;
+          slotted = rw (k, m, u) at p;
           total = sym n;
           kept-and-made = omega (arith, x, n, k, m);
           kept-and-given-up = omega (arith, y, k, u);
@@ -155,6 +162,53 @@ module _ {image tables tree tokens work tree' work' before old : List ℕ} {plac
   pub edit-read-back-one : {r' : Reply} {output' : List ℕ} → ReadOutcome image tree' output r' output'
       → (r' ≡ Accepted (readCounts (c .total))) × (output' ≡ replaced old place removed tokens ++ drop (length (replaced old place removed tokens)) output)
   edit-read-back-one k = read-one k edit-read-back
+
+-- ---- what an accepted edit leaves as it was
+
+module _ {image tree tokens tree' : List ℕ} {place removed : ℕ} {c : Counts} (h : Renewed image tree place removed tokens c tree') where
+  abbrev the-edit : Edit
+  the-edit = editOf place removed (h .inserted)
+
+  both-trees : Trees (h .grammar) the-edit (h .old .tree) (h .new .tree)
+  both-trees = altered-trees (h .prepared) (h .old .derives) (h .within) (h .slotted)
+
+  -- every node that starts before the place keeps its slot, and its number
+  pub edit-before : {a q m t : ℕ} {f : Forest} → Node (h .old .tree) a q m t f → t < place → Keeps the-edit (h .old .tree) (h .new .tree) a a
+  edit-before o l = before-keeps both-trees o l
+
+  -- a kept node that starts after the removed run
+  module _ {a' q' m' t' a q m t : ℕ} {f' f : Forest} (k : Keeps the-edit (h .old .tree) (h .new .tree) a' a) (n : Node (h .new .tree) a' q' m' t' f') (o : Node (h .old .tree) a q m t f)
+      (l : place + removed ≤ t) where
+    -- in its own slot only the parent and the next sibling may change
+    pub edit-top : Written tree f × Written tree' f
+    edit-top = untouched-top both-trees (h .slotted) (h .old .area) (h .new .area) k n o l
+
+    -- "below such a subtree's top no byte changes"
+    pub edit-untouched : {d q₁ m₁ t₁ : ℕ} {f₁ : Forest} → 0 < d → d < treeSize f → Node (h .old .tree) (a + d) q₁ m₁ t₁ f₁ → slotAt tree' (top f₁) ≡ slotAt tree (top f₁)
+    edit-untouched i j x = untouched both-trees (h .slotted) (h .old .area) (h .new .area) k n o l i j x
+
+-- a refusal leaves the tree as it was
+pub edit-refused : {image tables tree tokens work tree' work' : List ℕ} {place removed : ℕ} {r : Reply} (x : Reason) → EditOutcome image tables tree place removed tokens work r tree' work' → r ≡ Refused x → tree' ≡ tree
+edit-refused {image} {tables} {tree} {tokens} {work} {place = place} {removed} x h e = go (h .opened) e
+  where
+    unchanged : {G : Grammar} {r : Reply} {v : List ℕ} → Edits tables tokens place removed (length work) tree G r v → r ≡ Refused x → v ≡ tree
+    unchanged (wrong-tables n) e = refl
+    unchanged (no-tree t n) e = refl
+    unchanged (short-work t v l) e = refl
+    unchanged (bad-token t v l b) e = refl
+    unchanged (beyond t v l s o) e = refl
+    unchanged (wrong-syntax t v l s o p) e = refl
+    unchanged (no-room t v l s o p) e = refl
+    unchanged (altered new t v l s o p a) e = never (cc)
+
+    judged : {G : Grammar} {r : Reply} {v : List ℕ} → Judged G (Edits tables tokens place removed (length work) tree G) tree r v → r ≡ Refused x → v ≡ tree
+    judged (useless y) e = refl
+    judged (conflict n y) e = refl
+    judged (fit p q) e = unchanged q e
+
+    go : {r : Reply} {v : List ℕ} → Opened image (Edits tables tokens place removed (length work) tree) tree r v → r ≡ Refused x → v ≡ tree
+    go (bad-image y) e = refl
+    go (good-image i j) e = judged j e
 
 -- ---- the plain parse decides
 

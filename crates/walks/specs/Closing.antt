@@ -5,12 +5,13 @@ use mathlib.Core.Path.{_≡_, refl, sym, ap, _∙_}
 use mathlib.Core.List.{List}
 use lib.ListN.{length, take, drop, length-take, length-drop}
 use lib.Seq.{getD-take, getD-drop, take-add, drop-at, length-take-le}
-use mathlib.Core.Logic.{by-cases}
+use mathlib.Core.Logic.{by-cases, ⊎-elim}
 use native.Mathlib.Decide.{ℕ-discrete}
 use native.Mathlib.Omega.{arith}
+use borrow.Author.Count.{below-more}
 use Rattle.base.specs.Choose.{never}
 use Rattle.base.specs.Tells.{Tells, tells-yes, tells-no}
-use Rattle.base.specs.Bytes.{byteAt, get16, leBytes}
+use Rattle.base.specs.Bytes.{byteAt, get16, get32, leBytes}
 use Rattle.base.specs.Blocks.{zeros, byte-zeros}
 use Rattle.grammar.specs.Grammar.{Grammar}
 use Rattle.grammar.specs.Forest.{size}
@@ -23,9 +24,10 @@ use Rattle.walks.specs.declared.Walked.the-variants.{Tree, NoTree}
 use Rattle.walks.specs.declared.Course.{Course}
 use Rattle.walks.specs.declared.Course.the-variants.{Through, Astray}
 use Rattle.walks.specs.Slots.{Known, sixteen}
+use Rattle.walks.specs.Judging.{below}
 use Rattle.walks.specs.Going.{going-end, going-one}
 use Rattle.walks.specs.Reading.{leavesOf, leaves-few, Free, found-valid, valid-few, valid-found, size-preorder}
-use Rattle.walks.specs.Walking.{gram, Walking, Wandered}
+use Rattle.walks.specs.Walking.{gram, Ended, Wandered}
 
 -- ---- the header
 
@@ -122,6 +124,47 @@ module _ (b m : List ℕ) (s : ℕ) where
   pub clear-all : (S : ℕ) → S < s → ClearTo b m s → Tells (ClearTo b m (S + 1)) true
   clear-all S o k = tells-yes (record { each = λ x a c. k .each x a (omega arith) })
 
+-- the eight slots from s on were visited, if 8 is the answer
+pub data Run (m : List ℕ) (s S : ℕ) : ℕ → Type 0 where
+  none : Run m s S 0
+  all : s + 7 ≤ S → ((d : ℕ) → d < 8 → byteAt m (s + d) ≡ 0 → ⊥) → Run m s S 8
+
+pub run-all : (m : List ℕ) (s S u v : ℕ) → Known m → s + 7 ≤ S → u ≡ get32 m s → u ≡ 0x01010101 → v ≡ get32 m (s + 4) → v ≡ 0x01010101 → Run m s S 8
+run-all m s S u v k l e e' o o' =
+    let a0 = k .small s in
+    let a1 = k .small (s + 1) in
+    let a2 = k .small (s + 2) in
+    let a3 = k .small (s + 3) in
+    let c0 = k .small (s + 4) in
+    let c1 = k .small (s + 4 + 1) in
+    let c2 = k .small (s + 4 + 2) in
+    let c3 = k .small (s + 4 + 3) in
+    let at : (i j : ℕ) → i ≡ j → (byteAt m i ≡ 0 → ⊥) → byteAt m j ≡ 0 → ⊥ = λ i j q h z. h (ap (byteAt m) q ∙ z) in
+    let P : ℕ → Type 0 = λ d. byteAt m (s + d) ≡ 0 → ⊥ in
+    let p0 : P 0 = at s (s + 0) (omega arith) (λ z. omega (arith, e, e', z, a1, a2, a3)) in
+    let p1 : P 1 = λ z. omega (arith, e, e', z, a0, a2, a3) in
+    let p2 : P 2 = λ z. omega (arith, e, e', z, a0, a1, a3) in
+    let p3 : P 3 = λ z. omega (arith, e, e', z, a0, a1, a2) in
+    let p4 : P 4 = λ z. omega (arith, o, o', z, c1, c2, c3) in
+    let p5 : P 5 = at (s + 4 + 1) (s + 5) (omega arith) (λ z. omega (arith, o, o', z, c0, c2, c3)) in
+    let p6 : P 6 = at (s + 4 + 2) (s + 6) (omega arith) (λ z. omega (arith, o, o', z, c0, c1, c3)) in
+    let p7 : P 7 = at (s + 4 + 3) (s + 7) (omega arith) (λ z. omega (arith, o, o', z, c0, c1, c2)) in
+    let q3 = below-more P 3 (below-more P 2 (below-more P 1 (below-more P 0 (λ i w. absurd (omega arith)) p0) p1) p2) p3 in
+    Run.all l (below-more P 7 (below-more P 6 (below-more P 5 (below-more P 4 q3 p4) p5) p6) p7)
+
+pub run-few : {m : List ℕ} {s S r : ℕ} → Run m s S r → 0 < r → s + r ≤ S + 1
+run-few Run.none l = absurd (omega arith)
+run-few (Run.all o h) l = omega arith
+
+pub clear-run : {m : List ℕ} {s S r : ℕ} (b : List ℕ) → Run m s S r → ClearTo b m s → ClearTo b m (s + r)
+clear-run {s = s} b Run.none k = let e : s + 0 ≡ s = omega arith in rw e k
+clear-run {m} {s} b (Run.all o h) k =
+    record {
+      each = λ x a c. ⊎-elim (λ l. k .each x a l)
+          (λ l. record { zero = λ z. absurd (h (x - s) (omega arith) (let e : s + (x - s) ≡ x = omega arith in rw e z)) })
+          (below x s);
+    }
+
 -- ---- the answer
 
 -- the tree of the first nodes of w, or no valid tree
@@ -139,10 +182,10 @@ module _ (rows : List ℕ) (t n start count S : ℕ) (b w m : List ℕ) where
   reads-astray r (Wandered.astray h) e = Reads.none (λ v. h .no (preorder (v .tree)) (valid-found v .walks) (valid-found v .once) (valid-few v))
 
   module _ (r : Course) (i leaves : ℕ) (h : Wandered rows t n start count S b w m r) (e : r ≡ Through i leaves) where
-    ended : Walking rows t n start count S b w m i 0 leaves
+    ended : Ended rows t n start count S b w m i leaves
     ended = go h e
       where
-        go : {r : Course} → Wandered rows t n start count S b w m r → r ≡ Through i leaves → Walking rows t n start count S b w m i 0 leaves
+        go : {r : Course} → Wandered rows t n start count S b w m r → r ≡ Through i leaves → Ended rows t n start count S b w m i leaves
         go (Wandered.through {i = j} {leaves = k} l h) e =
             let q : j ≡ i = cc in
             let o : k ≡ leaves = cc in
@@ -175,6 +218,6 @@ module _ (rows : List ℕ) (t n start count S : ℕ) (b w m : List ℕ) where
     reads-tree o few long hd cl =
         let es = nodesFrom w i 0 in
         let q : slotAt b 0 ≡ headerBytes (get16 b 2) (length (nodesFrom w i 0)) (leavesOf (nodesFrom w i 0)) = rw (length-nodes w i 0, ← ended .counted) (hd .is) in
-        let f : Free S b (nodesFrom w i 0) = record { zero = λ x a c y. cl .each x a (omega arith) .zero (ended .marked .free x y) } in
+        let f : Free S b (nodesFrom w i 0) = record { zero = λ x a c y. cl .each x a (omega arith) .zero (ended .marked .free x a y) } in
         let v = found-valid o few long (record { walks = going-end es (ended .going); once = ended .marked .once; header = q; free = f }) in
         Reads.tree (v .valid) (v .nodes) (sym (length-nodes w i 0) ∙ ap length (sym (v .nodes)) ∙ size-preorder (v .valid .tree))

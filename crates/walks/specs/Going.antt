@@ -2,7 +2,7 @@
 use Prim.Native.Nat.{ℕ, _+_, _≤_, _<_}
 use mathlib.Core.Path.{_≡_, refl, sym, ap, subst, _∙_}
 use mathlib.Core.List.{List, [], _∷_, _++_, append-assoc, append-nil}
-use lib.ListN.{length, length-append}
+use lib.ListN.{length}
 use native.Mathlib.Omega.{arith}
 use Rattle.base.specs.Choose.{never}
 use Rattle.base.specs.Bytes.{byteAt}
@@ -132,17 +132,10 @@ module _ {G : Grammar} {S : ℕ} {b : List ℕ} where
   pub going-end : {start : List Frame} (es : List Node) → Going G S b start es [] → Walks G S b start es
   going-end es g = rw (append-nil es) at (g .on [] Walks.nil)
 
-  -- where no slot, a slot out of range, or a slot that was visited waits, or where there is no room
+  -- where a slot out of range or one that was visited waits
   module _ {start fs : List Frame} {f : Frame} (es : List Node) (g : Going G S b start es (f ∷ fs)) where
     pub lost-stuck : Stuck G S b (f ∷ fs) → Lost G S b start
     lost-stuck s = record { no = λ hs h d l. let r = g .only hs h in s .no (r .nodes) (r .walks) }
-
-    pub lost-zero : f .slot ≡ 0 → Lost G S b start
-    lost-zero z = lost-stuck (record { no = λ hs h. go h })
-      where
-        go : {hs : List Node} → Walks G S b (f ∷ fs) hs → ⊥
-        go (Walks.none i j h) = each-head (g .waits) .some j
-        go (Walks.visit w s h) = omega (arith, w .0, z)
 
     pub lost-over : S < f .slot → Lost G S b start
     lost-over z = lost-stuck (record { no = λ hs h. go h })
@@ -151,19 +144,12 @@ module _ {G : Grammar} {S : ℕ} {b : List ℕ} where
         go (Walks.none i j h) = omega (arith, i, z)
         go (Walks.visit w s h) = omega (arith, w .1, z)
 
-    pub lost-full : S ≤ length es → Lost G S b start
-    lost-full z = record { no = λ hs h d l. let r = g .only hs h in go (r .walks) (omega (arith, l, length-append es (r .nodes), ap length (r .is))) }
-      where
-        go : {hs : List Node} → Walks G S b (f ∷ fs) hs → length es + length hs ≤ S → ⊥
-        go (Walks.none i j h) l = each-head (g .waits) .some j
-        go (Walks.visit {es = hs} w s h) l = omega arith
-
     pub lost-marked : (m : List ℕ) → Marked m es → (byteAt m (f .slot) ≡ 0 → ⊥) → Lost G S b start
     lost-marked m k z = record { no = λ hs h d l. let r = g .only hs h in go (r .walks) (subst (λ (u : List Node). Distinct (slotsOf u)) (r .is) d) }
       where
         go : {hs : List Node} → Walks G S b (f ∷ fs) hs → Distinct (slotsOf (es ++ hs)) → ⊥
         go (Walks.none i j h) d = each-head (g .waits) .some j
-        go (Walks.visit {e = e} {es = hs} w s h) d = marked-twice m es e hs (f .slot) k z (stands-slot s) d
+        go (Walks.visit {e = e} {es = hs} w s h) d = marked-twice m es e hs (f .slot) (w .0) k z (stands-slot s) d
 
   -- at the end there is one walk only
   pub going-one : {start : List Frame} (es hs : List Node) → Going G S b start es [] → Walks G S b start hs → hs ≡ es

@@ -1,66 +1,137 @@
--- Whether the node in a slot can stand where a symbol is expected: what its production and tag must be, and how many children it then has.
-use Prim.Native.Nat.{ℕ, suc, _-_, _≤_, _<_}
+-- Whether the node in a slot can stand where a symbol is expected: what its production and tag must be, and which children it then has.
+use Prim.Native.Nat.{ℕ, zero, suc, _+_, _-_, _*_, _/_, _%_, _≤_, _<_}
 use mathlib.Core.Bool.{Bool, true, false}
-use Rattle.base.specs.Tells.{Tells}
-use mathlib.Core.Path.{_≡_, sym, ap, _∙_}
-use mathlib.Core.List.{List}
+use mathlib.Core.Path.{_≡_, refl, sym, ap, _∙_}
+use mathlib.Core.Logic.{_⊎_, ⊎-elim}
+use mathlib.Core.List.{List, _∷_}
+use lib.ListN.{length, getD}
 use native.Mathlib.Omega.{arith}
+use Rattle.base.specs.Tells.{Tells, tells-yes, tells-no}
+use Rattle.base.specs.Bytes.{byteAt, get16}
 use Rattle.grammar.specs.Grammar.{TerminalOf}
-use Rattle.grammar.specs.Rows.{bodySpace, leftAt, lengthAt}
-use Rattle.walks.specs.Slots.{symbolIn, productionIn, parentIn, tagIn, Used}
+use Rattle.grammar.specs.Rows.{leftAt}
+use Rattle.grammar.specs.RowRules.{bodyAt}
+use Rattle.trees.specs.Area.{slotSize, tagSpace}
+use Rattle.trees.specs.Listing.{nodeOf, Put}
+use Rattle.walks.specs.declared.Kids.{Kids}
+use Rattle.walks.specs.declared.Kids.the-variants.{Body, Unfit}
+use Rattle.walks.specs.Slots.{symbolIn, productionIn, parentIn, tagIn, fields, Known, Used, slot-used}
+use Rattle.walks.specs.Digits.{Digits, digits-head}
+use Rattle.walks.specs.Words.{wordCount, Worded}
 
--- the children of a node with symbol x, production p and tag g; more than a body has where there is no such node
-pub data Kin (rows : List ℕ) (t count x p g : ℕ) : ℕ → Type 0 where
-  leaf : p ≡ 0 → TerminalOf t x → Kin rows t count x p g 0
-  node : {q : ℕ} → p ≡ suc q → q < count → leftAt rows q ≡ x → g ≡ 0 → Kin rows t count x p g (lengthAt rows q)
-  none : (p ≡ 0 → TerminalOf t x → ⊥) → ((q : ℕ) → p ≡ suc q → q < count → leftAt rows q ≡ x → g ≡ 0 → ⊥) → Kin rows t count x p g bodySpace
+-- ---- the slot
 
--- the same of the node in slot s, where x is expected below the slot `par`
-pub data Judged (b rows : List ℕ) (t count s par x : ℕ) : ℕ → Type 0 where
-  fits : {r : ℕ} → Used b s → symbolIn b s ≡ x → parentIn b s ≡ par → Kin rows t count x (productionIn b s) (tagIn b s) r → Judged b rows t count s par x r
-  none : (Used b s → symbolIn b s ≡ x → parentIn b s ≡ par → ⊥) → Judged b rows t count s par x bodySpace
+-- slot s is a used one with the symbol x below the slot `par`
+pub record Suits (b : List ℕ) (s par x : ℕ) : Type 0 where
+  pub used : Used b s
+  pub symbol : symbolIn b s ≡ x
+  pub parent : parentIn b s ≡ par
+
+-- its symbol and its production as a two-byte number
+both-in : (b : List ℕ) (s v : ℕ) → v ≡ get16 b (slotSize * s + 2) → Known b → (v % 256 ≡ symbolIn b s) × (v / 256 ≡ productionIn b s)
+both-in b s v e k =
+    let q : slotSize * s + 2 + 1 ≡ slotSize * s + 3 = omega arith in
+    let o = ap (byteAt b) q in
+    let c = k .small (slotSize * s + 2) in
+    (omega (arith, e, c), omega (arith, e, o, c))
+
+pub suits-low : {b : List ℕ} {s par x : ℕ} → Known b → Suits b s par x → x < 256
+suits-low {s = s} k h = omega (arith, h .symbol, k .small (slotSize * s + 2))
 
 -- as the code finds it
-module _ (rows : List ℕ) (t count x p g : ℕ) where
-  pub kin-zero : p ≡ 0 → x ≡ 0 → Kin rows t count x p g bodySpace
+module _ (b : List ℕ) (s par x : ℕ) where
+  pub suits-mark : (v : ℕ) → v ≡ get16 b (slotSize * s) → (v ≡ 0x444E → ⊥) → Tells (Suits b s par x) false
+  suits-mark v e n = tells-no (λ h. let f = fields b s (h .used .is) in n (omega (arith, e, f .mark, f .mark')))
+
+  pub suits-spare : (v : ℕ) → v ≡ get16 b (slotSize * s + 14) → (v ≡ 0 → ⊥) → Tells (Suits b s par x) false
+  suits-spare v e n =
+      let q : slotSize * s + 14 + 1 ≡ slotSize * s + 15 = omega arith in
+      let o = ap (byteAt b) q in
+      tells-no (λ h. let f = fields b s (h .used .is) in n (omega (arith, e, o, f .spare, f .spare')))
+
+  pub suits-symbol : (v : ℕ) → Known b → v ≡ get16 b (slotSize * s + 2) → (v % 256 ≡ x → ⊥) → Tells (Suits b s par x) false
+  suits-symbol v k e n = tells-no (λ h. n (both-in b s v e k .0 ∙ h .symbol))
+
+  pub suits-parent : (v : ℕ) → v ≡ parentIn b s → (v ≡ par → ⊥) → Tells (Suits b s par x) false
+  suits-parent v e n = tells-no (λ h. n (e ∙ h .parent))
+
+  pub suits-yes : (u v y z : ℕ) → Known b → slotSize * s + slotSize ≤ length b → u ≡ get16 b (slotSize * s) → u ≡ 0x444E → v ≡ get16 b (slotSize * s + 14) → v ≡ 0
+      → y ≡ get16 b (slotSize * s + 2) → y % 256 ≡ x → z ≡ parentIn b s → z ≡ par → Tells (Suits b s par x) true
+  suits-yes u v y z k l eu u' ev v' ey y' ez z' =
+      let q : slotSize * s + 14 + 1 ≡ slotSize * s + 15 = omega arith in
+      let o = ap (byteAt b) q in
+      let c0 = k .small (slotSize * s) in
+      let c1 = k .small (slotSize * s + 1) in
+      tells-yes (record {
+        used = slot-used b s k l (omega (arith, eu, u', c0, c1)) (omega (arith, eu, u', c0, c1)) (omega (arith, ev, v', o)) (omega (arith, ev, v', o));
+        symbol = sym (both-in b s y ey k .0) ∙ y';
+        parent = sym ez ∙ z';
+      })
+
+pub ruleset suiting = (suits-mark, suits-spare, suits-parent)
+
+-- ---- the children
+
+-- the children of a node with symbol x, production p and tag g have the symbols of a body, or there is no such node
+pub data Kin (rows : List ℕ) (t count x p g : ℕ) : Kids → Type 0 where
+  leaf : p ≡ 0 → TerminalOf t x → Kin rows t count x p g (Body 0)
+  node : {q r : ℕ} → p ≡ suc q → q < count → leftAt rows q ≡ x → g ≡ 0 → Digits (bodyAt rows q) r → Kin rows t count x p g (Body r)
+  none : (p ≡ 0 → TerminalOf t x → ⊥) → ((q : ℕ) → p ≡ suc q → q < count → leftAt rows q ≡ x → g ≡ 0 → ⊥) → Kin rows t count x p g Unfit
+
+pub below : (q n : ℕ) → (q < n) ⊎ (n ≤ q)
+below q zero = _⊎_.inr (omega arith)
+below zero (suc n) = _⊎_.inl (omega arith)
+below (suc q) (suc n) = ⊎-elim (λ l. _⊎_.inl (omega arith)) (λ l. _⊎_.inr (omega arith)) (below q n)
+
+module _ (rows ws : List ℕ) (t count x p g : ℕ) where
+  pub kin-zero : p ≡ 0 → x ≡ 0 → Kin rows t count x p g Unfit
   kin-zero e z = Kin.none (λ _ h. omega (arith, h .0, z)) (λ q i. omega (arith, e, i))
 
-  pub kin-over : p ≡ 0 → t < x → Kin rows t count x p g bodySpace
+  pub kin-over : p ≡ 0 → t < x → Kin rows t count x p g Unfit
   kin-over e z = Kin.none (λ _ h. omega (arith, h .1, z)) (λ q i. omega (arith, e, i))
 
-  pub kin-leaf : p ≡ 0 → (x ≡ 0 → ⊥) → x ≤ t → Kin rows t count x p g 0
+  pub kin-leaf : p ≡ 0 → (x ≡ 0 → ⊥) → x ≤ t → Kin rows t count x p g (Body 0)
   kin-leaf e z l = Kin.leaf e (omega (arith, z), l)
 
-  module _ (n : p ≡ 0 → ⊥) where
-    pub kin-many : count < p → Kin rows t count x p g bodySpace
-    kin-many l = Kin.none (λ e. absurd (n e)) (λ q i m. omega (arith, l, i, m))
+  module _ (h : Worded rows count ws) (n : p ≡ 0 → ⊥) (low : p < wordCount) where
+    pub kin-left : (getD ws p 0 % 128 ≡ 64 + x → ⊥) → Kin rows t count x p g Unfit
+    kin-left z =
+        Kin.none (λ e. absurd (n e)) (λ q i m o _. let d : Digits (leftAt rows q ∷ bodyAt rows q) (getD ws p 0) = rw i (h .row q m (omega arith)) in z (digits-head d .0 ∙ ap (λ (y : ℕ). 64 + y) o))
 
-    module _ (l : p ≤ count) (y : ℕ) (h : y ≡ leftAt rows (p - 1)) where
-      pub kin-left : (y ≡ x → ⊥) → Kin rows t count x p g bodySpace
-      kin-left z = Kin.none (λ e. absurd (n e)) (λ q i m o. let w : p - 1 ≡ q = omega (arith, i) in absurd (z (h ∙ ap (leftAt rows) w ∙ o)))
+    pub kin-tag : (g ≡ 0 → ⊥) → Kin rows t count x p g Unfit
+    kin-tag z = Kin.none (λ e. absurd (n e)) (λ q i m o u. z u)
 
-      pub kin-tag : (g ≡ 0 → ⊥) → Kin rows t count x p g bodySpace
-      kin-tag z = Kin.none (λ e. absurd (n e)) (λ q i m o u. z u)
+    pub kin-node : getD ws p 0 % 128 ≡ 64 + x → g ≡ 0 → Kin rows t count x p g (Body (getD ws p 0 / 128))
+    kin-node e z = go p n low e
+      where
+        go : (p : ℕ) → (p ≡ 0 → ⊥) → p < wordCount → getD ws p 0 % 128 ≡ 64 + x → Kin rows t count x p g (Body (getD ws p 0 / 128))
+        go zero n low e = absurd (n refl)
+        go (suc q) n low e =
+            ⊎-elim
+            (λ l. let d = digits-head (h .row q l low) in Kin.node {q = q} refl l (omega (arith, d .0, e)) z (d .1))
+            (λ l. absurd (omega (arith, e, ap (λ (y : ℕ). y % 128) (h .none q l low))))
+            (below q count)
 
-      pub kin-node : (r : ℕ) → y ≡ x → g ≡ 0 → r ≡ lengthAt rows (p - 1) → Kin rows t count x p g r
-      kin-node r e z k =
-          let w : Kin rows t count x p g (lengthAt rows (p - 1)) = Kin.node {q = p - 1} (omega arith) (omega arith) (sym h ∙ e) z in
-          rw (← k) at w
+pub ruleset kinds = (kin-zero, kin-over, kin-leaf, kin-left, kin-tag, kin-node)
 
-pub ruleset kinds = (kin-zero, kin-over, kin-leaf, kin-many, kin-left, kin-tag, kin-node)
+-- ---- the visit
 
-module _ (b rows : List ℕ) (t count s par x : ℕ) where
-  pub judged-unused : (used : Bool) → Tells (Used b s) used → used ≡ false → Judged b rows t count s par x bodySpace
-  judged-unused used h e = Judged.none (λ u i j. h .no e u)
+-- slot s was written as node i, or it is not the node that is expected
+pub data Visited (rows : List ℕ) (t count : ℕ) (b : List ℕ) (s par x : ℕ) (w : List ℕ) (i : ℕ) (w' : List ℕ) : Kids → Type 0 where
+  body : {r : ℕ} → Suits b s par x → Kin rows t count x (productionIn b s) (tagIn b s) (Body r) → tagIn b s < tagSpace
+      → Put w i (nodeOf s (symbolIn b s) (productionIn b s) (tagIn b s)) w' → Visited rows t count b s par x w i w' (Body r)
+  unfit : length w' ≡ length w → (Suits b s par x → Kin rows t count x (productionIn b s) (tagIn b s) Unfit) → Visited rows t count b s par x w i w' Unfit
 
-  pub judged-symbol : (v : ℕ) → v ≡ symbolIn b s → (v ≡ x → ⊥) → Judged b rows t count s par x bodySpace
-  judged-symbol v e n = Judged.none (λ u i j. n (e ∙ i))
+module _ (rows : List ℕ) (t count : ℕ) (b : List ℕ) (s par x : ℕ) (w : List ℕ) (i : ℕ) where
+  pub visited-unlike : (u : Bool) → Tells (Suits b s par x) u → u ≡ false → Visited rows t count b s par x w i w Unfit
+  visited-unlike u h e = Visited.unfit refl (λ f. absurd (h .no e f))
 
-  pub judged-parent : (v : ℕ) → v ≡ parentIn b s → (v ≡ par → ⊥) → Judged b rows t count s par x bodySpace
-  judged-parent v e n = Judged.none (λ u i j. n (e ∙ j))
+  module _ (v g : ℕ) (known : Known b) (ev : v ≡ get16 b (slotSize * s + 2)) (eg : g ≡ tagIn b s) (r : Kids) (k : Kin rows t count x (v / 256) g r) where
+    ep : v / 256 ≡ productionIn b s
+    ep = both-in b s v ev known .1
 
-  pub judged-fits : (used : Bool) (y v p g r : ℕ) → Tells (Used b s) used → used ≡ true → y ≡ symbolIn b s → y ≡ x → v ≡ parentIn b s → v ≡ par
-      → p ≡ productionIn b s → g ≡ tagIn b s → Kin rows t count x p g r → Judged b rows t count s par x r
-  judged-fits used y v p g r h u e i e' i' o z k = Judged.fits (h .yes u) (sym e ∙ i) (sym e' ∙ i') (rw (o, z) at k)
+    pub visited-unfit : r ≡ Unfit → Visited rows t count b s par x w i w Unfit
+    visited-unfit e = Visited.unfit refl (λ f. rw (e, ep, eg) at k)
 
-pub ruleset judging = (judged-unused, judged-symbol, judged-parent, judged-fits)
+    pub visited-body : (u : Bool) → Tells (Suits b s par x) u → u ≡ true → (y : ℕ) → r ≡ Body y → g < tagSpace → (w' : List ℕ) → Put w i (nodeOf s (v % 256) (v / 256) g) w' → Visited rows t count b s par x w i w' (Body y)
+    visited-body u h e y er l w' put = Visited.body (h .yes e) (rw (er, ep, eg) at k) (rw eg at l) (rw (both-in b s v ev known .0, ep, eg) at put)

@@ -5,10 +5,11 @@ pub mod Frames
 pub mod Marks
 pub mod Going
 pub mod Reading
--- The frames in bytes, and the code.
+-- Bodies as numbers, the frames in bytes, and the code.
+pub mod Digits
+pub mod Words
 pub mod Judging
 pub mod Stacked
-pub mod Pushing
 pub mod Turning
 pub mod Walking
 pub mod Closing

@@ -5,8 +5,6 @@ use mathlib.Core.List.{List}
 use lib.ListN.{length}
 use native.Mathlib.Omega.{arith}
 use Rattle.base.specs.Bytes.{byteAt, get16, leBytes, get32}
-use mathlib.Core.Bool.{false}
-use Rattle.base.specs.Tells.{Tells, tells-no}
 use Rattle.base.specs.Blocks.{zeros}
 use Rattle.trees.specs.Area.{slotSize, tagSpace, slotBytes, slotAt}
 use Rattle.trees.specs.Slots.{slot-byte, slot-is}
@@ -110,19 +108,3 @@ slot-used b s k l m m' z z' =
           (omega (arith, k .small (at + 8))) (y 9 (at + 8 + 1) (omega arith) ∙ omega (arith, k .small (at + 8), k .small (at + 8 + 1)))
           (omega arith) (y 11 (at + 10 + 1) (omega arith) ∙ omega arith) (y 12 (at + 10 + 2) (omega arith) ∙ omega arith) (y 13 (at + 10 + 3) (omega arith) ∙ omega arith) z z');
     }
-
--- what the tests of a slot's mark and zeros tell
-module _ (b : List ℕ) (s : ℕ) where
-  pub unmarked : (byteAt b (slotSize * s) ≡ 0x4E → ⊥) → Tells (Used b s) false
-  unmarked n = tells-no (λ h. n (fields b s (h .is) .mark))
-
-  pub unmarked' : (byteAt b (slotSize * s + 1) ≡ 0x44 → ⊥) → Tells (Used b s) false
-  unmarked' n = tells-no (λ h. n (fields b s (h .is) .mark'))
-
-  pub spoilt : (byteAt b (slotSize * s + 14) ≡ 0 → ⊥) → Tells (Used b s) false
-  spoilt n = tells-no (λ h. n (fields b s (h .is) .spare))
-
-  pub spoilt' : (byteAt b (slotSize * s + 15) ≡ 0 → ⊥) → Tells (Used b s) false
-  spoilt' n = tells-no (λ h. n (fields b s (h .is) .spare'))
-
-pub ruleset unused = (unmarked, unmarked', spoilt, spoilt')

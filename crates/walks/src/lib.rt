@@ -1,24 +1,40 @@
-// Walking a tree area of whatever bytes back into the list of its nodes. Siblings that wait to be visited are a frame: the slot of the first of them, their parent's,
-// the parent's production and the place in its body. A slot is held against its frame when it is visited, so that its symbol, production, parent and links are right;
-// afterwards the header and the slots that were not visited are looked at.
+// Walking a tree area of whatever bytes back into the list of its nodes. A body is one number, its symbols the digits, so that the siblings to come are known without
+// the rows. Siblings that wait while others' children are visited are a frame: the slot of the first of them, their parent's, and their symbols.
+// A slot is held against what is expected when it is visited, so that its symbol, production, parent and links are right; afterwards the header and the slots
+// that were not visited are looked at.
 ghost use mathlib.Core.Path.{_≡_};
+ghost use mathlib.Core.List.{_∷_};
 ghost use Prim.Native.Nat.{_+_, _*_, _<_, _≤_};
-ghost use lib.ListN.{length};
-ghost use Rattle.base.specs.Bytes.{byteAt, get16};
+ghost use lib.ListN.{length, set};
+ghost use Rattle.base.specs.Blocks.{zeros};
 ghost use Rattle.base.specs.Tells.{Tells};
-ghost use Rattle.grammar.specs.Rows.{bodySpace, grammarIn};
+ghost use Rattle.grammar.specs.Rows.{leftAt, grammarIn};
+ghost use Rattle.grammar.specs.RowRules.{bodyAt};
 ghost use Rattle.trees.specs.Area.{slotSize, maxSlots, areaSize};
-ghost use Rattle.walks.specs.Slots.{Used};
-ghost use Rattle.walks.specs.Frames.{Within};
+ghost use Rattle.trees.specs.Coded.{nodeSize};
+ghost use Rattle.walks.specs.Digits.{Digits};
+ghost use Rattle.walks.specs.Words.{wordCount, Worded};
 ghost use Rattle.walks.specs.Reading.{leafOf};
-ghost use Rattle.walks.specs.Judging.{Kin, Judged};
-ghost use Rattle.walks.specs.Stacked.{frameSize, placeOf, workSize, lengthOf, bodyOf, Framed};
-ghost use Rattle.walks.specs.Pushing.{Pushed, Settled};
-ghost use Rattle.walks.specs.Turning.{Turned};
+ghost use Rattle.walks.specs.Judging.{Suits, Kin, Visited};
+ghost use Rattle.walks.specs.Stacked.{frameSize, workSize, Framed};
 ghost use Rattle.walks.specs.Walking.{Wandered};
-ghost use Rattle.walks.specs.Closing.{Heads, Clear, ClearTo, Reads};
+ghost use Rattle.walks.specs.Closing.{Heads, Clear, ClearTo, Run, Reads};
 
 pub const FRAME_SIZE: usize = 6;
+
+// A used slot's mark as a two-byte number.
+const NODE_MARKS: usize = 0x444E;
+
+// The marks of four slots that were visited as a four-byte number.
+const FOUR_MARKS: usize = 0x01010101;
+
+// A word for each number that a slot's byte may name as its production.
+const WORDS: usize = 256;
+
+// Symbols are digits with this added, so that none is 0, in this base.
+const DIGIT: usize = 64;
+
+const BASE: usize = 128;
 
 // The area is the tree of so many nodes, or it is no valid tree.
 pub enum Walked {
@@ -26,10 +42,10 @@ pub enum Walked {
     NoTree,
 }
 
-// The walk goes on with so many frames, or it stops.
-enum Step {
-    On(usize),
-    Stop,
+// A node's children must have the symbols of this body, or there is no such node.
+enum Kids {
+    Body(usize),
+    Unfit,
 }
 
 // The walk ended with so many nodes and leaves, or there is none.
@@ -38,197 +54,128 @@ enum Course {
     Astray,
 }
 
-// Whether slot s has a used slot's mark and zeros.
-fn is_used(area: &[u8], s: usize) -> bool
+// The left side and the body of the production in row q as one number.
+fn word_of(rows: &[u8], q: usize) -> usize
+    ensures { λ r. ⌜ Digits (leftAt (now (rows .entry)) q ∷ bodyAt (now (rows .entry)) q) r ⌝ }
+{
+    let mut v: usize = 0;
+    let mut j = grammar::length_at(rows, q);
+    while 0 < j {
+        j -= 1;
+        v = BASE * v + DIGIT + grammar::symbol_at(rows, q, j);
+    }
+    BASE * v + DIGIT + grammar::left_at(rows, q)
+}
+
+fn blank(words: &mut [usize])
+    ensures { λ _. ⌜ now (words .exit) ≡ zeros (length (now (words .entry))) ⌝ }
+{
+    let mut i = 0;
+    while i < words.len() {
+        words[i] = 0;
+        i += 1;
+    }
+}
+
+// The words of the productions, each at its number; the others are 0.
+fn fill_words(rows: &[u8], count: usize, words: &mut [usize])
+    requires { ⌜ length (now words) ≡ wordCount ⌝ }
+    ensures { λ _. ⌜ Worded (now (rows .entry)) count (now (words .exit)) ⌝ }
+{
+    blank(words);
+    let mut q: usize = 0;
+    while q < count {
+        if WORDS - 1 <= q {
+            return;
+        }
+        words[q + 1] = word_of(rows, q);
+        q += 1;
+    }
+}
+
+// Whether slot s has a used slot's mark and zeros, and the symbol x below the slot `par`.
+fn suits(area: &[u8], s: usize, par: usize, x: usize) -> bool
     requires { ⌜ slotSize * s + slotSize ≤ length (now area) ⌝ }
-    ensures { λ r. ⌜ Tells (Used (now (area .entry)) s) r ⌝ }
+    ensures { λ r. ⌜ Tells (Suits (now (area .entry)) s par x) r ⌝ }
 {
     let at = trees::SLOT_SIZE * s;
-    if area[at] != trees::NODE_MARK {
+    if base::two(area, at) != NODE_MARKS {
         return false;
     }
-    if area[at + 1] != trees::NODE_MARK_END {
+    if base::two(area, at + 14) != 0 {
         return false;
     }
-    if area[at + 14] != 0 {
+    if base::two(area, at + 2) % 256 != x {
         return false;
     }
-    if area[at + 15] != 0 {
+    if base::two(area, at + 4) != par {
         return false;
     }
     true
 }
 
-// How many children a node with symbol x, production p and tag g has, or more than a body may have where there is no such node.
-fn kin(rows: &[u8], t: usize, count: usize, x: usize, p: usize, g: usize) -> usize
-    ensures { λ r. ⌜ Kin (now (rows .entry)) t count x p g r × (r ≤ bodySpace) ⌝ }
+// The children of a node with symbol x, production p and tag g.
+fn kin(rows: &[u8], words: &[usize], t: usize, count: usize, x: usize, p: usize, g: usize) -> Kids
+    requires { ⌜ (length (now words) ≡ wordCount) × Worded (now rows) count (now words) × (x < 256) × (p < 256) ⌝ }
+    ensures { λ r. ⌜ Kin (now (rows .entry)) t count x p g r ⌝ }
 {
     if p == 0 {
         if x == 0 {
-            return grammar::BODY_SPACE;
+            return Kids::Unfit;
         }
         if t < x {
-            return grammar::BODY_SPACE;
+            return Kids::Unfit;
         }
-        return 0;
+        return Kids::Body(0);
     }
-    if count < p {
-        return grammar::BODY_SPACE;
-    }
-    if grammar::left_at(rows, p - 1) != x {
-        return grammar::BODY_SPACE;
+    let v = words[p];
+    if v % BASE != DIGIT + x {
+        return Kids::Unfit;
     }
     if g != 0 {
-        return grammar::BODY_SPACE;
+        return Kids::Unfit;
     }
-    grammar::length_at(rows, p - 1)
+    Kids::Body(v / BASE)
 }
 
-// The same of the node in slot s, where x is expected below the slot `par`.
-fn judge(area: &[u8], rows: &[u8], t: usize, count: usize, s: usize, par: usize, x: usize) -> usize
-    requires { ⌜ slotSize * s + slotSize ≤ length (now area) ⌝ }
-    ensures { λ r. ⌜ Judged (now (area .entry)) (now (rows .entry)) t count s par x r × (r ≤ bodySpace) ⌝ }
+// Visits slot s, where x is expected below the slot `par`, and writes it as node i.
+fn visit(
+    area: &[u8],
+    rows: &[u8],
+    words: &[usize],
+    t: usize,
+    count: usize,
+    s: usize,
+    par: usize,
+    x: usize,
+    w: &mut [u8],
+    i: usize,
+) -> Kids
+    requires { ⌜ (slotSize * s + slotSize ≤ length (now area)) × (length (now words) ≡ wordCount) × Worded (now rows) count (now words) × (nodeSize * i + nodeSize ≤ length (now w)) × (s < 65536) ⌝ }
+    ensures { λ r. ⌜ Visited (now (rows .entry)) t count (now (area .entry)) s par x (now (w .entry)) i (now (w .exit)) r ⌝ }
 {
-    let at = trees::SLOT_SIZE * s;
-    if is_used(area, s) {
-        if base::wide(area[at + 2]) != x {
-            return grammar::BODY_SPACE;
-        }
-        if base::two(area, at + 4) != par {
-            return grammar::BODY_SPACE;
-        }
-        return kin(
-            rows,
-            t,
-            count,
-            x,
-            base::wide(area[at + 3]),
-            base::four(area, at + 10),
-        );
+    if suits(area, s, par, x) {
+        let at = trees::SLOT_SIZE * s;
+        let both = base::two(area, at + 2);
+        let y = both % 256;
+        let p = both / 256;
+        let g = base::four(area, at + 10);
+        let Kids::Body(body) = kin(rows, words, t, count, x, p, g) else {
+            return Kids::Unfit;
+        };
+        trees::put_node(w, i, s, y, p, g);
+        return Kids::Body(body);
     }
-    grammar::BODY_SPACE
+    Kids::Unfit
 }
 
-// The length of the body of production p; above the root stands production 0, whose body is the start symbol.
-fn length_of(rows: &[u8], p: usize) -> usize
-    ensures { λ r. ⌜ (r ≡ lengthOf (now (rows .entry)) p) × (r < bodySpace) ⌝ }
-{
-    if p == 0 {
-        return 1;
-    }
-    grammar::length_at(rows, p - 1)
-}
-
-// Symbol j of that body.
-fn symbol_of(rows: &[u8], start: usize, p: usize, j: usize) -> usize
-    requires { ⌜ j < lengthOf (now rows) p ⌝ }
-    ensures { λ r. ⌜ r ≡ byteAt (bodyOf (now (rows .entry)) start p) j ⌝ }
-{
-    if p == 0 {
-        return start;
-    }
-    grammar::symbol_at(rows, p - 1, j)
-}
-
-// Writes a frame.
-fn put_frame(w: &mut [u8], at: usize, s: usize, par: usize, p: usize, j: usize)
-    requires { ⌜ (at + frameSize ≤ length (now w)) × (s < 65536) × (par < 65536) × (p < 256) × (j < 256) ⌝ }
-    ensures { λ _. ⌜ Framed (now (w .entry)) at s par p j (now (w .exit)) ⌝ }
+// Writes a frame's slots.
+fn put_frame(w: &mut [u8], at: usize, s: usize, par: usize)
+    requires { ⌜ (at + frameSize ≤ length (now w)) × (s < 65536) × (par < 65536) ⌝ }
+    ensures { λ _. ⌜ Framed (now (w .entry)) at s par (now (w .exit)) ⌝ }
 {
     base::put_two(w, at, s);
     base::put_two(w, at + 2, par);
-    w[at + 4] = p as u8;
-    w[at + 5] = j as u8;
-}
-
-// Writes the siblings from place j on, `some` of them, behind the k frames that wait. Where there are none there must be no slot.
-fn push(
-    w: &mut [u8],
-    slots: usize,
-    k: usize,
-    s: usize,
-    par: usize,
-    p: usize,
-    j: usize,
-    some: usize,
-) -> Step
-    requires { ⌜ (placeOf slots k + frameSize ≤ length (now w)) × (s < 65536) × (par < 65536) × (p < 256) × (j < 256) ⌝ }
-    ensures { λ r. ⌜ Pushed slots (now (w .entry)) k s par p j some (now (w .exit)) r ⌝ }
-{
-    if some == 0 {
-        if s == 0 {
-            return Step::On(k);
-        }
-        return Step::Stop;
-    }
-    put_frame(w, trees::NODE_SIZE * slots + FRAME_SIZE * k, s, par, p, j);
-    Step::On(k + 1)
-}
-
-// Writes the node in slot s as node i, and what waits behind it and below it.
-fn settle(
-    area: &[u8],
-    slots: usize,
-    w: &mut [u8],
-    i: usize,
-    k: usize,
-    s: usize,
-    par: usize,
-    p: usize,
-    j: usize,
-    rest: usize,
-    kids: usize,
-) -> Step
-    requires { ⌜ (slotSize * s + slotSize ≤ length (now area)) × (workSize slots ≤ length (now w)) × (i < slots) × (k < slots) × (s < 65536) × (par < 65536) × (p < 256) × (j < 256) ⌝ }
-    ensures { λ r. ⌜ Settled slots (now (area .entry)) (now (w .entry)) i k s par p j rest kids (now (w .exit)) r ⌝ }
-{
-    let at = trees::SLOT_SIZE * s;
-    let q = base::wide(area[at + 3]);
-    trees::put_node(
-        w,
-        i,
-        s,
-        base::wide(area[at + 2]),
-        q,
-        base::four(area, at + 10),
-    );
-    let Step::On(more) = push(w, slots, k, base::two(area, at + 8), par, p, j, rest) else {
-        return Step::Stop;
-    };
-    push(w, slots, more, base::two(area, at + 6), s, q, 0, kids)
-}
-
-// Visits the first sibling of frame k, and writes it as node i.
-fn turn(
-    area: &[u8],
-    slots: usize,
-    rows: &[u8],
-    t: usize,
-    n: usize,
-    start: usize,
-    count: usize,
-    w: &mut [u8],
-    i: usize,
-    k: usize,
-) -> Step
-    requires { ⌜ (slots ≤ maxSlots) × (length (now area) ≡ areaSize slots) × (workSize slots ≤ length (now w)) × (i < slots) × (k ≤ i) × Within slots (get16 (now w) (placeOf slots k)) ⌝ }
-    ensures { λ r. ⌜ Turned (now (rows .entry)) t n start count slots (now (area .entry)) (now (w .entry)) i k (now (w .exit)) r ⌝ }
-{
-    let at = trees::NODE_SIZE * slots + FRAME_SIZE * k;
-    let s = base::two(w, at);
-    let par = base::two(w, at + 2);
-    let p = base::wide(w[at + 4]);
-    let j = base::wide(w[at + 5]);
-    let len = length_of(rows, p);
-    if len <= j {
-        return Step::Stop;
-    }
-    let x = symbol_of(rows, start, p, j);
-    let kids = judge(area, rows, t, count, s, par, x);
-    if grammar::MAX_BODY < kids {
-        return Step::Stop;
-    }
-    settle(area, slots, w, i, k, s, par, p, j + 1, len - j - 1, kids)
 }
 
 // 1 for a leaf.
@@ -241,7 +188,100 @@ fn leaf_of(p: usize) -> usize
     0
 }
 
-// Walks the area from its root, and writes the nodes that it visits; `marks` tells which slots they are.
+// Marks no slot but slot 0, which is none.
+fn fresh(marks: &mut [u8])
+    requires { ⌜ 0 < length (now marks) ⌝ }
+    ensures { λ _. ⌜ now (marks .exit) ≡ set (zeros (length (now (marks .entry)))) 0 1 ⌝ }
+{
+    base::zero(marks);
+    marks[0] = 1;
+}
+
+// Walks the area from its root, and writes the nodes that it visits; `marks` tells which slots they are. Frame k's symbols are in rests[k].
+fn wander(
+    area: &[u8],
+    slots: usize,
+    rows: &[u8],
+    words: &[usize],
+    t: usize,
+    n: usize,
+    start: usize,
+    count: usize,
+    w: &mut [u8],
+    marks: &mut [u8],
+    rests: &mut [usize],
+) -> Course
+    requires { ⌜ (slots ≤ maxSlots) × (length (now area) ≡ areaSize slots) × (length (now words) ≡ wordCount) × Worded (now rows) count (now words) × (workSize slots ≤ length (now w)) × (slots < length (now marks)) × (slots ≤ length (now rests)) ⌝ }
+    ensures { λ r. ⌜ Wandered (now (rows .entry)) t n start count slots (now (area .entry)) (now (w .exit)) (now (marks .exit)) r ⌝ }
+{
+    fresh(marks);
+    let frames = trees::NODE_SIZE * slots;
+    let mut i: usize = 0;
+    let mut k: usize = 0;
+    let mut leaves: usize = 0;
+    let mut s = base::two(area, 2);
+    let mut par: usize = 0;
+    let mut x = start;
+    let mut rest: usize = 0;
+    loop {
+        if slots < s {
+            return Course::Astray;
+        }
+        if marks[s] != 0 {
+            return Course::Astray;
+        }
+        let Kids::Body(body) = visit(area, rows, words, t, count, s, par, x, w, i) else {
+            return Course::Astray;
+        };
+        marks[s] = 1;
+        let at = trees::SLOT_SIZE * s;
+        i += 1;
+        leaves += leaf_of(base::wide(area[at + 3]));
+        if body == 0 {
+            if base::two(area, at + 6) != 0 {
+                return Course::Astray;
+            }
+            if rest == 0 {
+                if base::two(area, at + 8) != 0 {
+                    return Course::Astray;
+                }
+                if k == 0 {
+                    return Course::Through(i, leaves);
+                }
+                k -= 1;
+                s = base::two(w, frames + FRAME_SIZE * k);
+                par = base::two(w, frames + FRAME_SIZE * k + 2);
+                rest = rests[k];
+                x = rest % BASE - DIGIT;
+                rest = rest / BASE;
+                continue;
+            }
+            s = base::two(area, at + 8);
+            x = rest % BASE - DIGIT;
+            rest = rest / BASE;
+            continue;
+        }
+        if rest == 0 {
+            if base::two(area, at + 8) != 0 {
+                return Course::Astray;
+            }
+            par = s;
+            s = base::two(area, at + 6);
+            x = body % BASE - DIGIT;
+            rest = body / BASE;
+            continue;
+        }
+        put_frame(w, frames + FRAME_SIZE * k, base::two(area, at + 8), par);
+        rests[k] = rest;
+        k += 1;
+        par = s;
+        s = base::two(area, at + 6);
+        x = body % BASE - DIGIT;
+        rest = body / BASE;
+    }
+}
+
+// The same, with the productions' words made first.
 fn walk(
     area: &[u8],
     slots: usize,
@@ -256,35 +296,22 @@ fn walk(
     requires { ⌜ (slots ≤ maxSlots) × (length (now area) ≡ areaSize slots) × (workSize slots ≤ length (now w)) × (slots < length (now marks)) ⌝ }
     ensures { λ r. ⌜ Wandered (now (rows .entry)) t n start count slots (now (area .entry)) (now (w .exit)) (now (marks .exit)) r ⌝ }
 {
-    base::zero(marks);
-    put_frame(w, trees::NODE_SIZE * slots, base::two(area, 2), 0, 0, 0);
-    let mut i: usize = 0;
-    let mut k: usize = 1;
-    let mut leaves: usize = 0;
-    while 0 < k {
-        k -= 1;
-        let s = base::two(w, trees::NODE_SIZE * slots + FRAME_SIZE * k);
-        if s == 0 {
-            return Course::Astray;
-        }
-        if slots < s {
-            return Course::Astray;
-        }
-        if marks[s] != 0 {
-            return Course::Astray;
-        }
-        if i == slots {
-            return Course::Astray;
-        }
-        marks[s] = 1;
-        let Step::On(more) = turn(area, slots, rows, t, n, start, count, w, i, k) else {
-            return Course::Astray;
-        };
-        k = more;
-        leaves += leaf_of(trees::production_of(w, i));
-        i += 1;
-    }
-    Course::Through(i, leaves)
+    let mut words = [0usize; WORDS];
+    fill_words(rows, count, &mut words);
+    let mut rests = [0usize; trees::MAX_SLOTS];
+    wander(
+        area,
+        slots,
+        rows,
+        &words,
+        t,
+        n,
+        start,
+        count,
+        w,
+        marks,
+        &mut rests,
+    )
 }
 
 // Whether the header has its mark and zeros, and says so many nodes and tokens.
@@ -319,6 +346,26 @@ fn clear(area: &[u8], marks: &[u8], s: usize) -> bool
     base::all_zero(&area[at..at + trees::SLOT_SIZE])
 }
 
+// 8 where the eight slots from s on are all of the area and were visited, else 0.
+fn run_of(marks: &[u8], s: usize, slots: usize) -> usize
+    requires { ⌜ (slots ≤ maxSlots) × (slots < length (now marks)) × (s ≤ slots) ⌝ }
+    ensures { λ r. ⌜ Run (now (marks .entry)) s slots r ⌝ }
+{
+    if slots < s + 7 {
+        return 0;
+    }
+    if marks[s] == 0 {
+        return 0;
+    }
+    if base::four(marks, s) != FOUR_MARKS {
+        return 0;
+    }
+    if base::four(marks, s + 4) != FOUR_MARKS {
+        return 0;
+    }
+    8
+}
+
 // Whether every slot is.
 fn all_clear(area: &[u8], marks: &[u8], slots: usize) -> bool
     requires { ⌜ (slots ≤ maxSlots) × (length (now area) ≡ areaSize slots) × (slots < length (now marks)) ⌝ }
@@ -326,6 +373,11 @@ fn all_clear(area: &[u8], marks: &[u8], slots: usize) -> bool
 {
     let mut s: usize = 1;
     while s <= slots {
+        let run = run_of(marks, s, slots);
+        if 0 < run {
+            s += run;
+            continue;
+        }
         if clear(area, marks, s) {
             s += 1;
             continue;
