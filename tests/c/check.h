@@ -1,7 +1,8 @@
-/* For the C tests: the reference grammar's image, and counting what holds. */
+/* For the C tests: the reference grammar's image, counting what holds, and reading bytes. */
 #ifndef CHECK_H
 #define CHECK_H
 
+#include <stddef.h>
 #include <stdint.h>
 #include <stdio.h>
 
@@ -20,6 +21,22 @@ static void expect(int holds, const char *what)
         failed++;
         printf("failed: %s\n", what);
     }
+}
+
+static uint64_t number_at(const uint8_t *bytes, size_t at, size_t size)
+{
+    uint64_t v = 0;
+    for (size_t i = size; i > 0; i--)
+        v = v * 256 + bytes[at + i - 1];
+    return v;
+}
+
+static int all(const uint8_t *bytes, size_t n, uint8_t value)
+{
+    for (size_t i = 0; i < n; i++)
+        if (bytes[i] != value)
+            return 0;
+    return 1;
 }
 
 #endif

@@ -14,25 +14,9 @@ static uint8_t image[64], tables[KINDLESAP_TABLES_SIZE + 1], tokens[TOKENS], tre
 static uint8_t tree_before[TREE + 32];
 static size_t image_len, tables_len, tokens_len, tree_len, work_len, output_len;
 
-static uint64_t number_at(const uint8_t *bytes, size_t at, size_t size)
-{
-    uint64_t v = 0;
-    for (size_t i = size; i > 0; i--)
-        v = v * 256 + bytes[at + i - 1];
-    return v;
-}
-
 static uint64_t field(size_t at, size_t size)
 {
     return number_at(reply, at, size);
-}
-
-static int all(const uint8_t *bytes, size_t n, uint8_t value)
-{
-    for (size_t i = 0; i < n; i++)
-        if (bytes[i] != value)
-            return 0;
-    return 1;
 }
 
 /* Lends the reference grammar, its tables, the tokens of some kinds, and areas for so many slots, full of 0xAA. */

@@ -10,18 +10,7 @@ static uint8_t reply[64];
 
 static uint64_t field(size_t at, size_t size)
 {
-    uint64_t v = 0;
-    for (size_t i = size; i > 0; i--)
-        v = v * 256 + reply[at + i - 1];
-    return v;
-}
-
-static int all(const uint8_t *bytes, size_t n, uint8_t value)
-{
-    for (size_t i = 0; i < n; i++)
-        if (bytes[i] != value)
-            return 0;
-    return 1;
+    return number_at(reply, at, size);
 }
 
 /* Prepares into tables filled with 0xAA; the reply's number, with its place in *place. */
