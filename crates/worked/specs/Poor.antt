@@ -11,14 +11,14 @@ use Rattle.grammar.specs.Each.{Each}
 use Rattle.grammar.specs.Grammar.{Grammar, TerminalOf}
 use Rattle.grammar.specs.Prediction.{Prepared}
 use Rattle.grammar.specs.Forest.{Token, Forest, yield}
-use Rattle.grammar.specs.Image.{Image, bad-head}
+use Rattle.grammar.specs.Image.{bad-head}
 use Rattle.grammar.specs.Images.{image-one, good-not-bad, bad-one}
 use Rattle.grammar.specs.Reference.{reference, referenceImage, reference-image}
 use Rattle.tables.specs.Tables.{tablesSize, Tables}
 use Rattle.trees.specs.Area.{areaSize, top, Area, Valid}
 use Rattle.trees.specs.Nodes.{preorder}
 use Rattle.plain.specs.Plain.{Verdict, accepted, syntax, noRoom, Parses}
-use Rattle.plain.specs.Tokens.{Tagged, Sentence, sentence-one, bad-not-sentence}
+use Rattle.plain.specs.Tokens.{Tagged, Sentence, bad-not-sentence}
 use Rattle.plain.specs.Machine.{marked}
 use Rattle.edits.specs.Keeping.{edited}
 use Rattle.sentences.specs.Forming.{editOf}
@@ -33,6 +33,7 @@ use Rattle.kindlesap.specs.Prepare.{Writes, wrong-size, written, Prepares}
 use Rattle.kindlesap.specs.Parse.{workAreas, Sized, parseCounts, Stored, Fits, wrong-tables, wrong-area, short-work, bad-token, wrong-syntax, no-room, stored, ParseOutcome, stored-parses, verdict-one}
 use Rattle.kindlesap.specs.ReadBack.{trees-one}
 use Rattle.kindlesap.specs.Edit as calls
+use Rattle.kindlesap.specs.Edited.{edit-renews}
 use Rattle.worked.specs.Ready.{below, reference-prepared, cells}
 use Rattle.worked.specs.Entries.{cell, referenceTables, reference-tables}
 use Rattle.worked.specs.Run.{body, lit, leaf, grown, inner, turn, run}
@@ -243,40 +244,10 @@ edit-not-one-reply r f =
     let z = calls.edit-one (b .2) (syntax-says 20 1000 2 2 2 56 kindsV [] (omega arith) refl x) .0 in
     never (cc)
 
--- of any grammar and any valid tree: what an accepted edit leaves is a tree of the new sentence
-module _ {image tables tree tokens : List ℕ} {place removed S : ℕ} {G : Grammar} {w : List Token} (i : Image image G) (v : Valid G S tree) (s : Sentence (G .t) tokens w) (c : Counts) where
-  new-tree : {r : Reply} {tree' : List ℕ} {S' room : ℕ} → calls.Edits tables tokens place removed room tree G r tree' → r ≡ Accepted c → (v' : Valid G S' tree')
-      → yield (v' .tree) ≡ edited (editOf place removed w) (yield (v .tree))
-  new-tree (calls.wrong-tables n) e v' = never (cc)
-  new-tree (calls.no-tree t n) e v' = never (cc)
-  new-tree (calls.short-work t u l) e v' = never (cc)
-  new-tree (calls.bad-token t u l b) e v' = never (cc)
-  new-tree (calls.beyond t u l z j) e v' = never (cc)
-  new-tree (calls.wrong-syntax t u l z j p) e v' = never (cc)
-  new-tree (calls.no-room t u l z j p) e v' = never (cc)
-  new-tree (calls.altered {w = w'} new t u l z j p a) e v' =
-      let q = trees-one v' (record { some = u .some; few = u .few; tree = new; derives = p .derives; area = a }) in
-      ap yield q ∙ p .yields ∙ ap (λ (k : List Token). edited (editOf place removed k) (yield (u .tree))) (sentence-one z s) ∙ ap (λ (f : Forest). edited (editOf place removed w) (yield f)) (trees-one u v)
-
-  new-judged : {r : Reply} {tree' : List ℕ} {S' room : ℕ} → Judged G (calls.Edits tables tokens place removed room tree G) tree r tree' → r ≡ Accepted c → (v' : Valid G S' tree')
-      → yield (v' .tree) ≡ edited (editOf place removed w) (yield (v .tree))
-  new-judged (useless h) e v' = never (cc)
-  new-judged (conflict n h) e v' = never (cc)
-  new-judged (fit p h) e v' = new-tree h e v'
-
-  new-opened : {r : Reply} {tree' : List ℕ} {S' room : ℕ} → Opened image (calls.Edits tables tokens place removed room tree) tree r tree' → r ≡ Accepted c → (v' : Valid G S' tree')
-      → yield (v' .tree) ≡ edited (editOf place removed w) (yield (v .tree))
-  new-opened (bad-image b) e v' = never (cc)
-  new-opened {r} {tree'} {room = room} (good-image {G = H} k h) e v' =
-      new-judged (subst (λ (K : Grammar). Judged K (calls.Edits tables tokens place removed room tree K) tree r tree') (image-one k i) h) e v'
-
-  pub edit-new-sentence : {work tree' work' : List ℕ} {S' : ℕ} → calls.EditOutcome image tables tree place removed tokens work (Accepted c) tree' work' → (v' : Valid G S' tree')
-      → yield (v' .tree) ≡ edited (editOf place removed w) (yield (v .tree))
-  edit-new-sentence h v' = new-opened (h .opened) refl v'
-
-  -- so no program only claims success, on whichever call: where the tree is left as it was, the sentence was not to change
-  pub edit-not-claimed : {work work' : List ℕ} → calls.EditOutcome image tables tree place removed tokens work (Accepted c) tree work' → yield (v .tree) ≡ edited (editOf place removed w) (yield (v .tree))
-  edit-not-claimed h = edit-new-sentence h v
+-- no program only claims success, from whichever valid tree: where the area is left as it was, the sentence was not to change
+pub edit-not-claimed : {image tables tree tokens work work' : List ℕ} {place removed : ℕ} (c : Counts) (h : calls.EditOutcome image tables tree place removed tokens work (Accepted c) tree work')
+    → edited (editOf place removed (edit-renews c h refl .inserted)) (yield (edit-renews c h refl .old .tree)) ≡ yield (edit-renews c h refl .old .tree)
+edit-not-claimed c h = let r = edit-renews c h refl in sym (r .yields) ∙ ap yield (trees-one (r .new) (r .old))
 
 -- no program leaves a byte of work that is not 0, whatever it replies
 pub edit-clears : {image tables tree tokens work tree' work' : List ℕ} {place removed : ℕ} {r : Reply} → calls.EditOutcome image tables tree place removed tokens work r tree' work' → (i : ℕ) → getD work' i 0 ≡ 0
