@@ -1,4 +1,4 @@
--- Meaning: what edit does with a grammar that passes replies 1 to 3.
+-- Meaning: what edit does with a grammar that passes replies 2 and 3.
 use Prim.Native.Nat.{ℕ, _+_, _*_, _≤_, _<_}
 use mathlib.Core.List.{List}
 use lib.ListN.{length}

@@ -23,7 +23,7 @@ pub const WORK_AREAS: usize = 3;
 // Where an area's header has the number of tokens.
 pub const TOKENS_PLACE: usize = 6;
 
-// What the walk of an area needs: a list of nodes, frames, and a mark for each slot.
+// What the walk of an area needs: a list of nodes and frames; and a mark for each slot.
 pub const WALK_SIZE: usize = trees::NODE_SIZE * trees::MAX_SLOTS
     + walks::FRAME_SIZE * (trees::MAX_SLOTS + 1);
 
