@@ -1,0 +1,49 @@
+use Rattle.notes.specs.Views.{notes-cleared}
+use borrow.Author.Needs.{needs}
+use Rattle.notes.proofs.clear.Statement.{statement}
+use Rattle.notes.proofs.clear.Tie as tie
+
+place-requires : tie.Need-place-requires
+place-requires c κs = search needs
+
+add-place : tie.Need-add-place
+add-place c = search needs
+
+add-place-2 : tie.Need-add-place-2
+add-place-2 c = search needs
+
+place-requires-2 : tie.Need-place-requires-2
+place-requires-2 c κs = search needs
+
+sub-zero : tie.Need-sub-zero
+sub-zero c = search needs
+
+part-zero-start : tie.Need-part-zero-start
+part-zero-start c = search needs
+
+part-zero-end : tie.Need-part-zero-end
+part-zero-end c = search needs
+
+zero-requires : tie.Need-zero-requires
+zero-requires c κs = search needs
+
+same-length : tie.Need-same-length
+same-length c = search needs
+
+returns : tie.Need-returns
+returns c = search (notes-cleared, needs)
+
+pub clear-spec : {M : Type 1} → statement M
+clear-spec =
+    tie.close
+    (tie.spec
+    place-requires
+    add-place
+    add-place-2
+    place-requires-2
+    sub-zero
+    part-zero-start
+    part-zero-end
+    zero-requires
+    same-length
+    returns)

@@ -1,0 +1,23 @@
+use Rattle.notes.specs.Views.{match-set}
+use borrow.Author.Needs.{needs}
+use Rattle.notes.proofs.set_match.Statement.{statement}
+use Rattle.notes.proofs.set_match.Tie as tie
+
+place-requires : tie.Need-place-requires
+place-requires c κs = search needs
+
+add-put-two : tie.Need-add-put-two
+add-put-two c = search needs
+
+put-two-requires : tie.Need-put-two-requires
+put-two-requires c κs = search needs
+
+same-length : tie.Need-same-length
+same-length c = search needs
+
+returns : tie.Need-returns
+returns c = search (match-set, needs)
+
+pub set-match-spec : {M : Type 1} → statement M
+set-match-spec =
+    tie.close (tie.spec place-requires add-put-two put-two-requires same-length returns)
