@@ -5,3 +5,5 @@ pub mod Marking
 pub mod Filling
 -- The new tree with its slots.
 pub mod Result
+-- What stays while the slots are marked and given.
+pub mod Seen

@@ -34,6 +34,10 @@ unfolding slotBy
 slot-some w zero s n e = absurd (n refl)
 slot-some w (suc a) s n e = e ∙ ap (λ (x : ℕ). nodeAt w x .slot) (omega arith)
 
+-- the same of a number that was read
+pub slot-of : (w : List ℕ) (x m s : ℕ) → m ≡ x → (m ≡ 0 → ⊥) → s ≡ nodeAt w (m - 1) .slot → s ≡ slotBy w x
+slot-of w x m s e n f = rw e at (slot-some w m s n f)
+
 -- only the old tree's nodes matter
 pub slot-kept : (w w' : List ℕ) (base m : ℕ) → ((j : ℕ) → j < nodeSize * base → byteAt w' j ≡ byteAt w j) → m ≤ base → slotBy w' m ≡ slotBy w m
 unfolding slotBy

@@ -1,26 +1,27 @@
-use Prim.Native.Nat.{_+_, _-_, _*_, _≤_, _<_}
+use Prim.Native.Nat.{_+_, _-_, _≤_, _<_}
 use mathlib.Core.Path.{_≡_}
 use lib.ListN.{length}
 use Rattle.trees.specs.Area.{maxSlots}
-use Rattle.trees.specs.Coded.{nodeSize}
+use Rattle.notes.specs.Views.{notesSize, nodesIn, matchesIn, marksIn, Kept}
 use Rattle.keeping.specs.Matched.{Old, Fit}
 use Rattle.keeping.specs.Marking.{Marks}
 use Rattle.keeping.specs.Filling.{Giving, giving-none, giving-holds, giving-more, giving-all}
+use Rattle.keeping.specs.Seen.{kept-here, match-fits, slot-seen, got-then, kept-given}
 use borrow.Author.Needs.{needs}
 use Rattle.keeping.proofs.give_all.Statement.{statement}
 use Rattle.keeping.proofs.give_all.Tie as tie
 
 abbrev Inv-loop : tie.InvT-loop
-Inv-loop nodes₀ base k slots matches marks s₀ i₀ nodes s i = (slots ≤ maxSlots) × (k ≤ slots) × (nodeSize * (base + k) ≤ length nodes) × (k ≤ length matches) × (slots < length marks) × Old base k matches × Fit slots nodes₀ matches k × Marks nodes₀ matches k marks × (length nodes ≡ length nodes₀) × (i ≤ k) × (s ≤ slots + 1 + i) × Giving nodes₀ matches base k nodes i s
+Inv-loop work₀ slots k s₀ i₀ work s i = (slots ≤ maxSlots) × (notesSize slots ≤ length work) × (k ≤ slots) × Old slots k (matchesIn slots work₀) × Fit slots (nodesIn slots work₀) (matchesIn slots work₀) k × Marks (nodesIn slots work₀) (matchesIn slots work₀) k (marksIn slots work₀) × (length work ≡ length work₀) × (i ≤ k) × (s ≤ slots + 1 + i) × Kept slots work (nodesIn slots work) (matchesIn slots work₀) (marksIn slots work₀) × Giving (nodesIn slots work₀) (matchesIn slots work₀) slots k (nodesIn slots work) i s
 
 abbrev μ-loop : tie.MeasureT-loop
-μ-loop nodes₀ base k slots matches marks s₀ i₀ nodes s i = k - i
+μ-loop work₀ slots k s₀ i₀ work s i = k - i
 
 loop-holds : tie.Need-loop-holds Inv-loop μ-loop
-loop-holds c = (search needs, search needs, search needs, search needs, search needs, search needs, search needs, search needs, search needs, search needs, search needs, giving-none _ _ _ _)
+loop-holds c = (search needs, search needs, search needs, search needs, search needs, search needs, search needs, search needs, search needs, kept-here _ _, giving-none _ _ _ _)
 
 held-requires : tie.Need-held-requires Inv-loop μ-loop
-held-requires c κs = search needs
+held-requires c κs = (search needs, search needs, search needs, match-fits (c .before .before .loop .inv .9) _ _ (c .before .before .loop .inv .3) (search needs))
 
 add-give-one : tie.Need-add-give-one Inv-loop μ-loop
 add-give-one c = search needs
@@ -38,8 +39,10 @@ loop-again : tie.Need-loop-again Inv-loop μ-loop
 loop-again c =
     let u = c .before .before .before .before .before .before .before .loop .inv in
     let i = c .before .before .before .before .before .before .before .loop .i in
-    let l : i < c .before .before .before .before .before .before .before .before .before .before .before .args .k = search needs in
-    let e = giving-holds _ (u .11) (u .5 .each i l) (c .before .before .before .before .held .ensures .0) in (
+    let l : i < c .before .before .before .before .before .before .before .before .before .args .k = search needs in
+    let h = slot-seen (u .9) _ _ (c .before .before .before .before .held .ensures .0) in
+    let e = giving-holds _ (u .10) (u .3 .each i l) h in
+    let g = c .before .before .give-one .ensures in (
       search needs,
       search needs,
       search needs,
@@ -49,16 +52,15 @@ loop-again c =
       search needs,
       search needs,
       search needs,
-      search needs,
-      search needs,
-      giving-more (u .7) (u .6) l e (c .before .before .give-one .ensures .0) (u .11),
+      kept-given (u .9) (g .1),
+      giving-more (u .5) (u .4) l e (got-then (u .9) (g .0)) (u .10),
     )
 
 same-length : tie.Need-same-length Inv-loop μ-loop
 same-length c = search needs
 
 returns : tie.Need-returns Inv-loop μ-loop
-returns c = giving-all (search needs) (search needs) (c .before .loop .inv .11)
+returns c = giving-all (search needs) (search needs) (c .before .loop .inv .10)
 
 pub give-all-spec : {M : Type 1} → statement M
 give-all-spec =

@@ -16,7 +16,7 @@ same-length : tie.Need-same-length
 same-length c = search needs
 
 returns : tie.Need-returns
-returns c = (got-made (search needs) (c .before .before .before .before .lowest-free .ensures .0) (c .before .before .set-slot .ensures), search needs)
+returns c = (got-made (search needs) (c .before .before .before .before .lowest-free .ensures .0) (c .before .before .set-slot .ensures .0), c .before .before .set-slot .ensures .1, search needs)
 
 set-slot-requires-2 : tie.Need-set-slot-requires-2
 set-slot-requires-2 c κs = search needs
@@ -25,7 +25,7 @@ same-length-2 : tie.Need-same-length-2
 same-length-2 c = search needs
 
 returns-2 : tie.Need-returns-2
-returns-2 c = (got-kept (search needs) (c .before .before .set-slot2 .ensures), search needs)
+returns-2 c = (got-kept (search needs) (c .before .before .set-slot2 .ensures .0), c .before .before .set-slot2 .ensures .1, search needs)
 
 pub give-one-spec : {M : Type 1} → statement M
 give-one-spec =

@@ -1,19 +1,20 @@
-use Rattle.keeping.specs.Marking.{mark-none, mark-some, kept-none, kept-some}
+use Rattle.keeping.specs.Marking.{kept-none, kept-some}
+use Rattle.keeping.specs.Seen.{hold-none, hold-some}
 use borrow.Author.Needs.{needs}
 use Rattle.keeping.proofs.hold.Statement.{statement}
 use Rattle.keeping.proofs.hold.Tie as tie
 
 returns : tie.Need-returns
-returns c = (mark-none _ _ (search needs), kept-none (c .before .args .h) (search needs), search needs)
+returns c = (hold-none _ _ _ (search needs), kept-none (c .before .before .args .h) (search needs), search needs)
 
-slice-write-marks : tie.Need-slice-write-marks
-slice-write-marks c = search needs
+set-mark-requires : tie.Need-set-mark-requires
+set-mark-requires c κs = search needs
 
 same-length : tie.Need-same-length
 same-length c = search needs
 
 returns-2 : tie.Need-returns-2
-returns-2 c = (mark-some _ _ (search needs), kept-some (c .before .args .h) (search needs), search needs)
+returns-2 c = (hold-some _ _ _ (search needs) (c .before .before .set-mark .ensures), kept-some (c .before .before .before .before .before .before .args .h) (search needs), search needs)
 
 pub hold-spec : {M : Type 1} → statement M
-hold-spec = tie.close (tie.spec returns slice-write-marks same-length returns-2)
+hold-spec = tie.close (tie.spec returns set-mark-requires same-length returns-2)

@@ -1,30 +1,47 @@
-use Prim.Native.Nat.{_-_, _≤_, _<_}
+use Rattle.keeping.specs.Seen.{marks-room, marks-then, keeps-then}
 use mathlib.Core.Path.{_≡_}
+use Rattle.keeping.specs.Seen.{kept-here, kept-more, match-fits, slot-then, old-now, fit-now}
+use Prim.Native.Nat.{_-_, _≤_}
 use lib.ListN.{length}
-use Rattle.keeping.specs.Matched.{Fit, fit-few}
+use Rattle.trees.specs.Area.{maxSlots}
+use Rattle.notes.specs.Views.{notesSize, nodesIn, matchesIn, marksIn, Kept}
+use Rattle.keeping.specs.Matched.{Old, Fit, fit-few}
 use Rattle.keeping.specs.Marking.{Marks, Keeps, marks-none, keeps-none, marks-more, keeps-more, marks-all, keeps-all}
+use Rattle.keeping.specs.Seen.{kept-more, match-fits, slot-then}
 use borrow.Author.Needs.{needs}
 use native.Mathlib.Omega.{arith}
 use Rattle.keeping.proofs.hold_all.Statement.{statement}
 use Rattle.keeping.proofs.hold_all.Tie as tie
 
 abbrev Inv-loop : tie.InvT-loop
-Inv-loop nodes k slots matches marks₀ kept₀ i₀ marks kept i = (k ≤ length matches) × (slots < length marks) × (length marks ≡ length marks₀) × Fit slots nodes matches k × (i ≤ k) × Marks nodes matches i marks × Keeps nodes matches i kept
+Inv-loop work₀ slots k kept₀ i₀ work kept i = (slots ≤ maxSlots) × (notesSize slots ≤ length work) × (k ≤ slots) × Old slots k (matchesIn slots work₀) × Fit slots (nodesIn slots work₀) (matchesIn slots work₀) k × (i ≤ k) × Kept slots work (nodesIn slots work₀) (matchesIn slots work₀) (marksIn slots work) × Marks (nodesIn slots work₀) (matchesIn slots work₀) i (marksIn slots work) × Keeps (nodesIn slots work₀) (matchesIn slots work₀) i kept × (length work ≡ length work₀)
 
 abbrev μ-loop : tie.MeasureT-loop
-μ-loop nodes k slots matches marks₀ kept₀ i₀ marks kept i = k - i
+μ-loop work₀ slots k kept₀ i₀ work kept i = k - i
 
-zero-requires : tie.Need-zero-requires Inv-loop μ-loop
-zero-requires c κs = search needs
+clear-marks-requires : tie.Need-clear-marks-requires Inv-loop μ-loop
+clear-marks-requires c κs = search needs
 
 loop-holds : tie.Need-loop-holds Inv-loop μ-loop
-loop-holds c = (search needs, search needs, search needs, search needs, search needs, marks-none _ _ _ _ (c .before .before .zero .ensures), keeps-none _ _)
+loop-holds c =
+    let v = c .before .before .clear-marks .ensures in (
+      search needs,
+      search needs,
+      search needs,
+      old-now v (search needs),
+      fit-now v (search needs),
+      search needs,
+      kept-here _ _,
+      marks-none _ _ _ _ (v .marks),
+      keeps-none _ _,
+      search needs,
+    )
 
 held-requires : tie.Need-held-requires Inv-loop μ-loop
-held-requires c κs = search needs
+held-requires c κs = (search needs, search needs, search needs, match-fits (c .before .before .loop .inv .6) _ _ (c .before .before .loop .inv .3) (search needs))
 
 hold-requires : tie.Need-hold-requires Inv-loop μ-loop
-hold-requires c κs = let l = fit-few (c .before .before .before .loop .i) (c .before .before .before .loop .inv .3) (search needs) in omega (arith, c .before .held .ensures .0)
+hold-requires c κs = let u = c .before .before .before .before .loop .inv in let e = slot-then (u .6) _ _ (c .before .held .ensures .0) in let l = fit-few (c .before .before .before .before .loop .i) (u .4) (search needs) in (search needs, search needs, omega (arith, e))
 
 add-kept : tie.Need-add-kept Inv-loop μ-loop
 add-kept c = search needs
@@ -37,23 +54,29 @@ loop-less c = search needs
 
 loop-again : tie.Need-loop-again Inv-loop μ-loop
 loop-again c =
-    let u = c .before .before .before .before .before .before .loop .inv in
-    let l = fit-few (c .before .before .before .before .before .before .loop .i) (u .3) (search needs) in
-    let e = c .before .before .before .before .held .ensures .0 in (
+    let u = c .before .before .before .before .before .before .before .loop .inv in
+    let l = fit-few (c .before .before .before .before .before .before .before .loop .i) (u .4) (search needs) in
+    let e = slot-then (u .6) _ _ (c .before .before .before .before .held .ensures .0) in (
       search needs,
       search needs,
       search needs,
       search needs,
       search needs,
-      marks-more _ _ _ _ e (omega arith) (c .before .before .hold .ensures .0) (u .5),
-      keeps-more _ _ _ _ e (c .before .before .hold .ensures .1) (search needs) (u .6),
+      search needs,
+      kept-more (u .6) (c .before .before .hold .ensures .0),
+      marks-more _ _ _ _ e (marks-room _ _ _ (omega arith)) (c .before .before .hold .ensures .0 .marks) (u .7),
+      keeps-more _ _ _ _ e (c .before .before .hold .ensures .1) (search needs) (u .8),
+      search needs,
     )
 
 same-length : tie.Need-same-length Inv-loop μ-loop
 same-length c = search needs
 
 returns : tie.Need-returns Inv-loop μ-loop
-returns c = (marks-all (search needs) (search needs) (c .before .loop .inv .5), keeps-all (search needs) (search needs) (c .before .loop .inv .6))
+returns c =
+    let v = c .before .before .before .before .clear-marks .ensures in
+    let u = c .before .loop .inv in
+    (marks-then v (marks-all (search needs) (search needs) (u .7)), keeps-then v (keeps-all (search needs) (search needs) (u .8)), kept-more v (u .6))
 
 pub hold-all-spec : {M : Type 1} → statement M
 hold-all-spec =
@@ -61,7 +84,7 @@ hold-all-spec =
     (tie.spec
     Inv-loop
     μ-loop
-    zero-requires
+    clear-marks-requires
     loop-holds
     held-requires
     hold-requires
