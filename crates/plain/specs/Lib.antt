@@ -10,4 +10,5 @@ pub mod Ends
 pub mod Tokens
 pub mod Parsing
 pub mod Machine
+pub mod Text
 pub mod Outcome

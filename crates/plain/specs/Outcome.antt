@@ -10,7 +10,7 @@ use Rattle.base.specs.Choose.{never}
 use Rattle.grammar.specs.Grammar.{Grammar}
 use Rattle.plain.specs.Plain.{syntax, noRoom, Parses}
 use Rattle.plain.specs.Tokens.{tokenSize, tokensFrom, Sentence, Kinds, BadToken, sentence-of, bad-token}
-use Rattle.plain.specs.Machine.{At, Done, Going}
+use Rattle.plain.specs.Machine.{Ground, At, Done, Going}
 use Rattle.plain.specs.declared.Tokens.{Tokens}
 use Rattle.plain.specs.declared.Tokens.the-variants.{Good, Bad}
 use Rattle.plain.specs.declared.Parsed.{Parsed}
@@ -84,6 +84,18 @@ module _ (G : Grammar) (S : ℕ) (b : List ℕ) (m : ℕ) (w w' : List ℕ) (o :
   turned-over v e = subst (Turned G S b m w w' o) e h
 
 pub ruleset turns = (turned-long, turned-low, turned-room, turned-matched, turned-at)
+
+-- ---- over the same bytes
+
+module _ {b b' : List ℕ} (e : b' ≡ b) where
+  pub ground-same : {rows : List ℕ} {t n start count : ℕ} {table : List ℕ} {m : ℕ} → Ground rows t n start count table b m → Ground rows t n start count table b' m
+  ground-same h = rw e h
+
+  pub at-same : {G : Grammar} {S m : ℕ} {w : List ℕ} {p o k : ℕ} → At G S b m w p o k → At G S b' m w p o k
+  at-same h = rw e h
+
+  pub ran-same : {G : Grammar} {S m : ℕ} {w : List ℕ} {r : Parsed} → Ran G S b m w r → Ran G S b' m w r
+  ran-same h = rw e h
 
 -- ---- for the callers
 

@@ -8,6 +8,8 @@ ghost use Rattle.grammar.specs.Rows.{symbolAt, grammarIn};
 ghost use Rattle.trees.specs.Area.{maxSlots};
 ghost use Rattle.trees.specs.Coded.{nodeSize};
 ghost use Rattle.plain.specs.Machine.{Lit, marked as markedm, Ground, Begun, At};
+ghost use Rattle.plain.specs.Tokens.{tokenSize};
+ghost use Rattle.plain.specs.Text.{textIn};
 ghost use Rattle.plain.specs.Outcome.{Told, Ran, Turned};
 
 pub const TOKEN_SIZE: usize = 5;
@@ -92,7 +94,6 @@ fn predicted(tables: &[u8], row: usize) -> u32
 
 // One turn: o nodes are written, the symbols from p on are left, k of m tokens are matched.
 fn step(
-    tokens: &[u8],
     m: usize,
     tables: &[u8],
     rows: &[u8],
@@ -106,8 +107,8 @@ fn step(
     p: usize,
     k: usize,
 ) -> Turn
-    requires { ⌜ Ground (now rows) t n start count (now tables) (now tokens) m × (slots ≤ maxSlots) × (nodeSize * slots + slots ≤ length (now work)) × (o < slots) × (p ≤ length (now work)) × (o + (length (now work) - p) ≤ slots) × (k ≤ m) × At (grammarIn (now rows) t n start count) slots (now tokens) m (now work) p o k ⌝ }
-    ensures { λ r. ⌜ Turned (grammarIn (now (rows .entry)) t n start count) slots (now (tokens .entry)) m (now (work .entry)) (now (work .exit)) o r ⌝ }
+    requires { ⌜ Ground (now rows) t n start count (now tables) (textIn slots m (now work)) m × (slots ≤ maxSlots) × (nodeSize * slots + tokenSize * m + slots ≤ length (now work)) × (o < slots) × (p ≤ length (now work)) × (o + (length (now work) - p) ≤ slots) × (k ≤ m) × At (grammarIn (now rows) t n start count) slots (textIn slots m (now work)) m (now work) p o k ⌝ }
+    ensures { λ r. ⌜ Turned (grammarIn (now (rows .entry)) t n start count) slots (textIn slots m (now (work .entry))) m (now (work .entry)) (now (work .exit)) o r × (textIn slots m (now (work .exit)) ≡ textIn slots m (now (work .entry))) ⌝ }
 {
     let end = work.len();
     if end <= p {
@@ -117,10 +118,12 @@ fn step(
         return Turn::Over(Parsed::Syntax(k, 1));
     }
     let x = base::byte_at(work, p);
-    let a = base::byte_at(tokens, TOKEN_SIZE * k);
+    let front = trees::NODE_SIZE * slots;
+    let back = front + TOKEN_SIZE * m;
+    let a = base::byte_at(&work[front..back], TOKEN_SIZE * k);
     if x <= t {
         if x == a {
-            let tag = base::get32(tokens, TOKEN_SIZE * k + 1);
+            let tag = base::get32(&work[front..back], TOKEN_SIZE * k + 1);
             trees::put_node(work, o, o + 1, x, 0, tag);
             return Turn::Go(p + 1, k + 1);
         }
@@ -150,9 +153,8 @@ fn begin(work: &mut [u8], start: u8) -> usize
     p
 }
 
-// The plain parse of m good tokens into so many slots. The nodes stand at the beginning of `work` and the stack at its end.
+// The plain parse of m good tokens into so many slots. The nodes are written at the beginning of `work`, the tokens stand behind the room for them, and the stack is at its end.
 pub fn parse(
-    tokens: &[u8],
     m: usize,
     tables: &[u8],
     rows: &[u8],
@@ -163,8 +165,8 @@ pub fn parse(
     slots: usize,
     work: &mut [u8],
 ) -> Parsed
-    requires { ⌜ Ground (now rows) t n start count (now tables) (now tokens) m × (1 ≤ slots) × (slots ≤ maxSlots) × (nodeSize * slots + slots ≤ length (now work)) ⌝ }
-    ensures { λ r. ⌜ Ran (grammarIn (now (rows .entry)) t n start count) slots (now (tokens .entry)) m (now (work .exit)) r ⌝ }
+    requires { ⌜ Ground (now rows) t n start count (now tables) (textIn slots m (now work)) m × (1 ≤ slots) × (slots ≤ maxSlots) × (nodeSize * slots + tokenSize * m + slots ≤ length (now work)) ⌝ }
+    ensures { λ r. ⌜ Ran (grammarIn (now (rows .entry)) t n start count) slots (textIn slots m (now (work .entry))) m (now (work .exit)) r ⌝ }
 {
     let mut p = begin(work, start as u8);
     let mut k: usize = 0;
@@ -172,21 +174,7 @@ pub fn parse(
     while o < slots {
         let i = o;
         o += 1;
-        let r = step(
-            tokens,
-            m,
-            tables,
-            rows,
-            t,
-            n,
-            start,
-            count,
-            slots,
-            work,
-            i,
-            p,
-            k,
-        );
+        let r = step(m, tables, rows, t, n, start, count, slots, work, i, p, k);
         match r {
             Turn::Go(top, token) => {
                 p = top;

@@ -1,23 +1,52 @@
 use Rattle.plain.specs.Outcome.{ran-done, ran-wrong, ran-full}
 use Rattle.plain.specs.Machine.{few, at-end, at-rest, at-leaf, at-odd, at-none, at-crowded, at-inner, low-row}
+use Rattle.plain.specs.Text.{text-kind, text-tag, text-put, text-filled}
+use mathlib.Core.Path.{refl, _∙_}
 use borrow.Author.Needs.{needs}
 use Rattle.plain.proofs.step.Statement.{statement}
 use Rattle.plain.proofs.step.Tie as tie
 
 returns : tie.Need-returns
-returns c = ran-done (at-end _ _ _ _ _ _ _ _ (c .before .before .before .before .before .before .pre .0) _ _ _ _ _ (search needs) (c .before .before .before .before .before .before .pre .7) (search needs))
+returns c = (ran-done (at-end _ _ _ _ _ _ _ _ (c .before .before .before .before .before .pre .0) _ _ _ _ _ (search needs) (c .before .before .before .before .before .pre .7) (search needs)), refl)
 
 returns-2 : tie.Need-returns-2
-returns-2 c = ran-wrong (at-rest _ _ _ _ _ _ _ _ (c .before .before .before .before .before .before .pre .0) _ _ _ _ _ (search needs) (c .before .before .before .before .before .before .pre .7) (search needs))
+returns-2 c = (ran-wrong (at-rest _ _ _ _ _ _ _ _ (c .before .before .before .before .before .pre .0) _ _ _ _ _ (search needs) (c .before .before .before .before .before .pre .7) (search needs)), refl)
 
 byte-at-requires : tie.Need-byte-at-requires
 byte-at-requires c κs = search needs
+
+mul-front : tie.Need-mul-front
+mul-front c = search needs
+
+mul-back : tie.Need-mul-back
+mul-back c = search needs
+
+add-back : tie.Need-add-back
+add-back c = search needs
+
+sub-byte-at : tie.Need-sub-byte-at
+sub-byte-at c = search needs
+
+part-byte-at-start : tie.Need-part-byte-at-start
+part-byte-at-start c = search needs
+
+part-byte-at-end : tie.Need-part-byte-at-end
+part-byte-at-end c = search needs
 
 mul-byte-at : tie.Need-mul-byte-at
 mul-byte-at c = search needs
 
 byte-at-requires-2 : tie.Need-byte-at-requires-2
 byte-at-requires-2 c κs = search needs
+
+sub-get32 : tie.Need-sub-get32
+sub-get32 c = search needs
+
+part-get32-start : tie.Need-part-get32-start
+part-get32-start c = search needs
+
+part-get32-end : tie.Need-part-get32-end
+part-get32-end c = search needs
 
 mul-get32 : tie.Need-mul-get32
 mul-get32 c = search needs
@@ -34,35 +63,35 @@ add-put-node c = search needs
 put-node-requires : tie.Need-put-node-requires
 put-node-requires c κs = search needs
 
-add-t30 : tie.Need-add-t30
-add-t30 c = search needs
+add-t39 : tie.Need-add-t39
+add-t39 c = search needs
 
-add-t29 : tie.Need-add-t29
-add-t29 c = search needs
+add-t35 : tie.Need-add-t35
+add-t35 c = search needs
 
 same-length : tie.Need-same-length
 same-length c = search needs
 
 returns-3 : tie.Need-returns-3
-returns-3 c = at-leaf _ _ _ _ _ _ _ _ (c .before .before .before .before .before .before .before .before .before .before .before .before .before .before .before .pre .0) _ _ _ _ _ (search needs) (search needs) (search needs) (search needs) (c .before .before .before .before .before .before .before .before .before .before .before .before .before .before .before .pre .7) _ _ (c .before .before .before .before .before .before .before .before .byte-at .ensures .0) (c .before .before .before .before .before .before .before .byte-at2 .ensures .0) (search needs) (search needs) _ _ (c .before .before .before .before .get32 .ensures .0) (c .before .before .put-node .ensures)
+returns-3 c = (at-leaf _ _ _ _ _ _ _ _ (c .before .before .before .before .before .before .before .before .before .before .before .before .before .before .before .before .before .before .pre .0) _ _ _ _ _ (search needs) (search needs) (search needs) (search needs) (c .before .before .before .before .before .before .before .before .before .before .before .before .before .before .before .before .before .before .pre .7) _ _ (c .before .before .before .before .before .before .before .before .before .before .before .before .byte-at .ensures .0) (text-kind _ _ _ _ _ (c .before .before .before .before .before .before .before .before .before .byte-at2 .ensures .0)) (search needs) (search needs) _ _ (text-tag _ _ _ _ _ (c .before .before .before .before .get32 .ensures .0)) (c .before .before .put-node .ensures), text-put _ _ (search needs) (c .before .before .put-node .ensures) (search needs))
 
-cast-t34 : tie.Need-cast-t34
-cast-t34 c = search needs
+cast-t43 : tie.Need-cast-t43
+cast-t43 c = search needs
 
-shl-t35 : tie.Need-shl-t35
-shl-t35 c = let h = few _ _ _ _ _ _ _ _ (c .before .before .before .before .before .before .before .before .before .before .pre .0) in search needs
+shl-t44 : tie.Need-shl-t44
+shl-t44 c = let h = few _ _ _ _ _ _ _ _ (c .before .before .before .before .before .before .before .before .before .before .before .pre .0) in search needs
 
 same-length-2 : tie.Need-same-length-2
 same-length-2 c = search needs
 
 returns-4 : tie.Need-returns-4
-returns-4 c = ran-wrong (at-odd _ _ _ _ _ _ _ _ (c .before .before .before .before .before .before .before .before .before .before .pre .0) _ _ _ _ _ (search needs) (search needs) (search needs) (search needs) (c .before .before .before .before .before .before .before .before .before .before .pre .7) _ _ (c .before .before .before .byte-at .ensures .0) (c .before .before .byte-at2 .ensures .0) (search needs) (search needs))
-
-sub-byte-at : tie.Need-sub-byte-at
-sub-byte-at c = search needs
+returns-4 c = (ran-wrong (at-odd _ _ _ _ _ _ _ _ (c .before .before .before .before .before .before .before .before .before .before .before .pre .0) _ _ _ _ _ (search needs) (search needs) (search needs) (search needs) (c .before .before .before .before .before .before .before .before .before .before .before .pre .7) _ _ (c .before .before .before .before .before .byte-at .ensures .0) (text-kind _ _ _ _ _ (c .before .before .byte-at2 .ensures .0)) (search needs) (search needs)), refl)
 
 sub-byte-at-2 : tie.Need-sub-byte-at-2
 sub-byte-at-2 c = search needs
+
+sub-byte-at-3 : tie.Need-sub-byte-at-3
+sub-byte-at-3 c = search needs
 
 mul-byte-at-2 : tie.Need-mul-byte-at-2
 mul-byte-at-2 c = search needs
@@ -80,13 +109,13 @@ sub-predicted-2 : tie.Need-sub-predicted-2
 sub-predicted-2 c = search needs
 
 predicted-requires : tie.Need-predicted-requires
-predicted-requires c κs = low-row _ _ _ _ _ _ _ _ (c .before .before .before .before .before .before .before .before .before .before .before .pre .0) _ _ _ _ _ (search needs) (search needs) (search needs) (search needs) (c .before .before .before .before .before .before .before .before .before .before .before .pre .7) _ _ (c .before .before .before .before .byte-at .ensures .0) (c .before .before .before .byte-at2 .ensures .0) (search needs) _ (c .before .byte-at3 .ensures .0)
+predicted-requires c κs = low-row _ _ _ _ _ _ _ _ (c .before .before .before .before .before .before .before .before .before .before .before .before .pre .0) _ _ _ _ _ (search needs) (search needs) (search needs) (search needs) (c .before .before .before .before .before .before .before .before .before .before .before .before .pre .7) _ _ (c .before .before .before .before .before .before .byte-at .ensures .0) (text-kind _ _ _ _ _ (c .before .before .before .byte-at2 .ensures .0)) (search needs) _ (c .before .byte-at3 .ensures .0)
 
 same-length-3 : tie.Need-same-length-3
 same-length-3 c = search needs
 
 returns-5 : tie.Need-returns-5
-returns-5 c = ran-wrong (at-none _ _ _ _ _ _ _ _ (c .before .before .before .before .before .before .before .before .before .before .before .before .pre .0) _ _ _ _ _ (search needs) (search needs) (search needs) (search needs) (c .before .before .before .before .before .before .before .before .before .before .before .before .pre .7) _ _ (c .before .before .before .before .before .byte-at .ensures .0) (c .before .before .before .before .byte-at2 .ensures .0) (search needs) _ (c .before .before .byte-at3 .ensures .0) (search needs) _ (c .predicted .ensures))
+returns-5 c = (ran-wrong (at-none _ _ _ _ _ _ _ _ (c .before .before .before .before .before .before .before .before .before .before .before .before .before .pre .0) _ _ _ _ _ (search needs) (search needs) (search needs) (search needs) (c .before .before .before .before .before .before .before .before .before .before .before .before .before .pre .7) _ _ (c .before .before .before .before .before .before .before .byte-at .ensures .0) (text-kind _ _ _ _ _ (c .before .before .before .before .byte-at2 .ensures .0)) (search needs) _ (c .before .before .byte-at3 .ensures .0) (search needs) _ (c .predicted .ensures)), refl)
 
 sub-length-at : tie.Need-sub-length-at
 sub-length-at c = search needs
@@ -107,7 +136,7 @@ same-length-4 : tie.Need-same-length-4
 same-length-4 c = search needs
 
 returns-6 : tie.Need-returns-6
-returns-6 c = ran-full (at-crowded _ _ _ _ _ _ _ _ (c .before .before .before .before .before .before .before .before .before .before .before .before .before .pre .0) _ _ _ _ _ (search needs) (search needs) (search needs) (search needs) (c .before .before .before .before .before .before .before .before .before .before .before .before .before .pre .7) _ _ (c .before .before .before .before .before .before .byte-at .ensures .0) (c .before .before .before .before .before .byte-at2 .ensures .0) (search needs) _ (c .before .before .before .byte-at3 .ensures .0) (search needs) (search needs))
+returns-6 c = (ran-full (at-crowded _ _ _ _ _ _ _ _ (c .before .before .before .before .before .before .before .before .before .before .before .before .before .before .pre .0) _ _ _ _ _ (search needs) (search needs) (search needs) (search needs) (c .before .before .before .before .before .before .before .before .before .before .before .before .before .before .pre .7) _ _ (c .before .before .before .before .before .before .before .before .byte-at .ensures .0) (text-kind _ _ _ _ _ (c .before .before .before .before .before .byte-at2 .ensures .0)) (search needs) _ (c .before .before .before .byte-at3 .ensures .0) (search needs) (search needs)), refl)
 
 add-top : tie.Need-add-top
 add-top c = search needs
@@ -131,7 +160,7 @@ same-length-5 : tie.Need-same-length-5
 same-length-5 c = search needs
 
 returns-7 : tie.Need-returns-7
-returns-7 c = at-inner _ _ _ _ _ _ _ _ (c .before .before .before .before .before .before .before .before .before .before .before .before .before .before .before .before .before .before .before .before .before .pre .0) _ _ _ _ _ (search needs) (search needs) (search needs) (search needs) (c .before .before .before .before .before .before .before .before .before .before .before .before .before .before .before .before .before .before .before .before .before .pre .7) _ _ (c .before .before .before .before .before .before .before .before .before .before .before .before .before .before .byte-at .ensures .0) (c .before .before .before .before .before .before .before .before .before .before .before .before .before .byte-at2 .ensures .0) (search needs) _ (c .before .before .before .before .before .before .before .before .before .before .before .byte-at3 .ensures .0) (search needs) _ (c .before .before .before .before .before .before .before .before .before .length-at .ensures .0) (search needs) _ _ _ (search needs) (c .before .before .before .before .before .before .push .ensures) (c .before .before .put-node2 .ensures)
+returns-7 c = (at-inner _ _ _ _ _ _ _ _ (c .before .before .before .before .before .before .before .before .before .before .before .before .before .before .before .before .before .before .before .before .before .before .pre .0) _ _ _ _ _ (search needs) (search needs) (search needs) (search needs) (c .before .before .before .before .before .before .before .before .before .before .before .before .before .before .before .before .before .before .before .before .before .before .pre .7) _ _ (c .before .before .before .before .before .before .before .before .before .before .before .before .before .before .before .before .byte-at .ensures .0) (text-kind _ _ _ _ _ (c .before .before .before .before .before .before .before .before .before .before .before .before .before .byte-at2 .ensures .0)) (search needs) _ (c .before .before .before .before .before .before .before .before .before .before .before .byte-at3 .ensures .0) (search needs) _ (c .before .before .before .before .before .before .before .before .before .length-at .ensures .0) (search needs) _ _ _ (search needs) (c .before .before .before .before .before .before .push .ensures) (c .before .before .put-node2 .ensures), text-put _ _ (search needs) (c .before .before .put-node2 .ensures) (search needs) ∙ text-filled _ _ (search needs) (c .before .before .before .before .before .before .push .ensures) (search needs))
 
 pub step-spec : {M : Type 1} → statement M
 step-spec =
@@ -140,23 +169,32 @@ step-spec =
     returns
     returns-2
     byte-at-requires
+    mul-front
+    mul-back
+    add-back
+    sub-byte-at
+    part-byte-at-start
+    part-byte-at-end
     mul-byte-at
     byte-at-requires-2
+    sub-get32
+    part-get32-start
+    part-get32-end
     mul-get32
     add-get32
     get32-requires
     add-put-node
     put-node-requires
-    add-t30
-    add-t29
+    add-t39
+    add-t35
     same-length
     returns-3
-    cast-t34
-    shl-t35
+    cast-t43
+    shl-t44
     same-length-2
     returns-4
-    sub-byte-at
     sub-byte-at-2
+    sub-byte-at-3
     mul-byte-at-2
     add-byte-at
     byte-at-requires-3
