@@ -1,15 +1,17 @@
-// The new sentence of an edit: the old tree's leaves and the lent tokens, one behind the other, no more of them than a parse looks at.
+// The new sentence of an edit: the old tree's leaves and the lent tokens, one behind the other, no more of them than a parse looks at. The tokens stand behind the nodes, in the same bytes.
 ghost use mathlib.Core.Path.{_≡_};
 ghost use Prim.Native.Nat.{_+_, _-_, _*_, _<_, _≤_};
 ghost use mathlib.Core.List.{_∷_};
-ghost use lib.ListN.{length, take};
+ghost use lib.ListN.{length, take, drop};
 ghost use Rattle.base.specs.Bytes.{leBytes};
 ghost use Rattle.base.specs.Blocks.{copied};
 ghost use Rattle.trees.specs.Area.{tagSpace, maxSlots};
+ghost use Rattle.trees.specs.Coded.{nodeSize};
 ghost use Rattle.plain.specs.Tokens.{tokenSize, tokensFrom};
 ghost use Rattle.sentences.specs.Adding.{Added};
 ghost use Rattle.sentences.specs.Leaves.{Gave, Skipped};
 ghost use Rattle.sentences.specs.Forming.{NewSentence};
+ghost use Rattle.sentences.specs.Behind.{Fronted};
 
 // How far the leaves are written: the next node, and the next token.
 pub struct Reached {
@@ -32,10 +34,10 @@ fn put_token(out: &mut [u8], at: usize, kind: usize, tag: usize)
     base::copy(out, at, &bytes);
 }
 
-// Writes the tokens of the leaves among n nodes, from node `from` on: the first one as token `at`, the last one before token `end`.
-pub fn give(nodes: &[u8], n: usize, from: usize, out: &mut [u8], at: usize, end: usize) -> Reached
-    requires { ⌜ (n ≤ maxSlots) × (from ≤ n) × (at ≤ end) × (tokenSize * end ≤ length (now out)) ⌝ }
-    ensures { λ r. ⌜ Gave (now (nodes .entry)) n from (now (out .entry)) at end (r .node) (r .token) (now (out .exit)) × (r .node ≤ n) × (r .token ≤ end) ⌝ }
+// Writes the tokens of the leaves among n nodes, from node `from` on: the first one as token `at`, the last one before token `end`. The tokens stand behind the nodes, from byte `text` on.
+pub fn give(work: &mut [u8], n: usize, from: usize, text: usize, at: usize, end: usize) -> Reached
+    requires { ⌜ (n ≤ maxSlots) × (from ≤ n) × (at ≤ end) × (nodeSize * n ≤ text) × (text + tokenSize * end ≤ length (now work)) ⌝ }
+    ensures { λ r. ⌜ Gave (now (work .entry)) n from (drop text (now (work .entry))) at end (r .node) (r .token) (drop text (now (work .exit))) × Fronted text (now (work .entry)) (now (work .exit)) × (r .node ≤ n) × (r .token ≤ end) ⌝ }
 {
     let mut i = from;
     let mut j = at;
@@ -43,15 +45,15 @@ pub fn give(nodes: &[u8], n: usize, from: usize, out: &mut [u8], at: usize, end:
         if j == end {
             return Reached { node: i, token: j };
         }
-        let p = trees::production_of(nodes, i);
+        let p = trees::production_of(work, i);
         let k = i;
         i += 1;
         if p != 0 {
             continue;
         }
-        let symbol = trees::symbol_of(nodes, k);
-        let tag = trees::tag_of(nodes, k);
-        put_token(out, plain::TOKEN_SIZE * j, symbol, tag);
+        let symbol = trees::symbol_of(work, k);
+        let tag = trees::tag_of(work, k);
+        put_token(work, text + plain::TOKEN_SIZE * j, symbol, tag);
         j += 1;
     }
     Reached { node: i, token: j }
@@ -78,37 +80,48 @@ fn skip(nodes: &[u8], n: usize, from: usize, k: usize) -> usize
     i
 }
 
-// Writes m tokens from token `at` on, those before token `end`, and answers the next one.
-fn put_tokens(out: &mut [u8], at: usize, tokens: &[u8], m: usize, end: usize) -> usize
-    requires { ⌜ (at ≤ end) × (end ≤ maxSlots + 1) × (tokenSize * end ≤ length (now out)) × (length (now tokens) ≡ tokenSize * m) ⌝ }
-    ensures { λ r. ⌜ Added (take (end - at) (tokensFrom (now (tokens .entry)) m 0)) (now (out .entry)) (now (out .exit)) at r × (r ≤ end) ⌝ }
+// Writes m tokens from token `at` on, those before token `end`, and answers the next one. They stand from byte `text` on.
+fn put_tokens(work: &mut [u8], text: usize, at: usize, tokens: &[u8], m: usize, end: usize) -> usize
+    requires { ⌜ (at ≤ end) × (text + tokenSize * end ≤ length (now work)) × (length (now tokens) ≡ tokenSize * m) ⌝ }
+    ensures { λ r. ⌜ Added (take (end - at) (tokensFrom (now (tokens .entry)) m 0)) (drop text (now (work .entry))) (drop text (now (work .exit))) at r × Fronted text (now (work .entry)) (now (work .exit)) × (r ≤ end) ⌝ }
 {
     let k = base::least(m, end - at);
     base::copy(
-        out,
-        plain::TOKEN_SIZE * at,
+        work,
+        text + plain::TOKEN_SIZE * at,
         &tokens[0..plain::TOKEN_SIZE * k],
     );
     at + k
 }
 
-// Writes the first `limit` tokens of the new sentence: of n nodes' leaves, those from `place` on, `removed` of them, are replaced by the m tokens. It answers how many tokens are written.
+// Writes the first `limit` tokens of the new sentence, from byte `text` on: of n nodes' leaves, those from `place` on, `removed` of them, are replaced by the m tokens. It answers how many tokens are written.
 pub fn new_sentence(
-    nodes: &[u8],
+    work: &mut [u8],
     n: usize,
     place: usize,
     removed: usize,
     tokens: &[u8],
     m: usize,
     limit: usize,
-    out: &mut [u8],
+    text: usize,
 ) -> usize
-    requires { ⌜ (n ≤ maxSlots) × (length (now tokens) ≡ tokenSize * m) × (limit ≤ maxSlots + 1) × (tokenSize * limit ≤ length (now out)) ⌝ }
-    ensures { λ r. ⌜ NewSentence (now (nodes .entry)) n place removed (now (tokens .entry)) m limit (now (out .entry)) (now (out .exit)) r × (r ≤ limit) ⌝ }
+    requires { ⌜ (n ≤ maxSlots) × (nodeSize * n ≤ text) × (length (now tokens) ≡ tokenSize * m) × (text + tokenSize * limit ≤ length (now work)) ⌝ }
+    ensures { λ r. ⌜ NewSentence (now (work .entry)) n place removed (now (tokens .entry)) m limit (drop text (now (work .entry))) (drop text (now (work .exit))) r × Fronted text (now (work .entry)) (now (work .exit)) × (r ≤ limit) ⌝ }
 {
-    let before = give(nodes, n, 0, out, 0, base::least(place, limit));
-    let next = put_tokens(out, before.token, tokens, m, limit);
-    let node = skip(nodes, n, before.node, removed);
-    let after = give(nodes, n, node, out, next, limit);
+    let before = give(work, n, 0, text, 0, base::least(place, limit));
+    let next = put_tokens(work, text, before.token, tokens, m, limit);
+    let node = skip(work, n, before.node, removed);
+    let after = give(work, n, node, text, next, limit);
     after.token
+}
+
+// Writes the tokens of the leaves among n nodes, `tokens` of them at most, to the output. They are put together behind the nodes, from byte `text` on.
+pub fn give_out(work: &mut [u8], n: usize, text: usize, tokens: usize, output: &mut [u8]) -> Reached
+    requires { ⌜ (n ≤ maxSlots) × (nodeSize * n ≤ text) × (text + tokenSize * tokens ≤ length (now work)) × (tokenSize * tokens ≤ length (now output)) ⌝ }
+    ensures { λ r. ⌜ Gave (now (work .entry)) n 0 (now (output .entry)) 0 tokens (r .node) (r .token) (now (output .exit)) ⌝ }
+{
+    let reached = give(work, n, 0, text, 0, tokens);
+    let end = text + plain::TOKEN_SIZE * reached.token;
+    base::copy(output, 0, &work[text..end]);
+    reached
 }

@@ -1,4 +1,4 @@
-use Rattle.sentences.specs.Forming.{formed}
+use Rattle.sentences.specs.Behind.{formed-behind}
 use borrow.Author.Needs.{needs}
 use Rattle.sentences.proofs.new_sentence.Statement.{statement}
 use Rattle.sentences.proofs.new_sentence.Tie as tie
@@ -22,7 +22,7 @@ same-length : tie.Need-same-length
 same-length c = search needs
 
 returns : tie.Need-returns
-returns c = (formed (c .before .before .before .before .before .before .before .before .before .before .before .before .before .before .before .before .before .args .nodes .now) (c .before .before .before .before .before .before .before .before .before .before .before .before .before .before .before .before .before .args .tokens .now) (c .before .before .before .before .before .before .before .before .before .before .before .before .before .before .before .before .before .args .n) (c .before .before .before .before .before .before .before .before .before .before .before .before .before .before .before .before .before .args .place) (c .before .before .before .before .before .before .before .before .before .before .before .before .before .before .before .before .before .args .removed) (c .before .before .before .before .before .before .before .before .before .before .before .before .before .before .before .before .before .args .m) (c .before .before .before .before .before .before .before .before .before .before .before .before .before .before .before .before .before .args .limit) _ _ _ _ _ (c .before .before .before .before .before .before .before .before .before .before .before .before .least .ensures) (search needs) (search needs) (c .before .before .before .before .before .before .before .before .before .before .before .give .ensures .0) _ _ (search needs) (c .before .before .before .before .before .before .before .put-tokens .ensures .0) _ (c .before .before .before .before .skip .ensures .0) _ _ _ (c .before .before .give2 .ensures .0), search needs)
+returns c = let z = formed-behind (c .before .before .before .before .before .before .before .before .before .before .before .before .before .before .before .before .before .args .tokens .now) (c .before .before .before .before .before .before .before .before .before .before .before .before .before .before .before .before .before .args .place) (c .before .before .before .before .before .before .before .before .before .before .before .before .before .before .before .before .before .args .m) (search needs) (search needs) (c .before .before .before .before .before .before .before .before .before .before .before .before .before .least .ensures) (search needs) (c .before .before .before .before .before .before .before .before .before .before .before .before .give .ensures .0) (c .before .before .before .before .before .before .before .before .before .before .before .before .give .ensures .1) (search needs) (c .before .before .before .before .before .before .before .before .put-tokens .ensures .0) (c .before .before .before .before .before .before .before .before .put-tokens .ensures .1) (c .before .before .before .before .skip .ensures .0) (c .before .before .give2 .ensures .0) (c .before .before .give2 .ensures .1) in (z .0, z .1, search needs)
 
 pub new-sentence-spec : {M : Type 1} → statement M
 new-sentence-spec =

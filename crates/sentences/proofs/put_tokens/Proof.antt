@@ -1,4 +1,4 @@
-use Rattle.sentences.specs.Forming.{tokens-added}
+use Rattle.sentences.specs.Behind.{tokens-behind}
 use native.Mathlib.Omega.{arith}
 use borrow.Author.Needs.{needs}
 use Rattle.sentences.proofs.put_tokens.Statement.{statement}
@@ -12,6 +12,9 @@ least-requires c κs = search needs
 
 mul-copy : tie.Need-mul-copy
 mul-copy c = search needs
+
+add-copy : tie.Need-add-copy
+add-copy c = search needs
 
 mul-copy-2 : tie.Need-mul-copy-2
 mul-copy-2 c = search needs
@@ -35,7 +38,7 @@ same-length : tie.Need-same-length
 same-length c = search needs
 
 returns : tie.Need-returns
-returns c = (tokens-added _ _ (c .before .before .before .before .before .before .before .before .args .tokens .now) _ (c .before .before .before .before .before .before .before .before .args .m) (c .before .before .before .before .before .before .before .before .args .end) _ (c .before .before .copy .ensures) (λ i. omega (arith, c .before .before .before .before .before .before .shared-slice-known .given i)) (search needs) (search needs) (search needs) (search needs), search needs)
+returns c = let z = tokens-behind _ _ (c .before .before .before .before .before .before .before .before .args .tokens .now) (c .before .before .before .before .before .before .before .before .args .text) (c .before .before .before .before .before .before .before .before .args .at) (c .before .before .before .before .before .before .before .before .args .m) (c .before .before .before .before .before .before .before .before .args .end) (c .before .before .before .before .before .least .result) (c .before .before .copy .ensures) (λ i. omega (arith, c .before .before .before .before .before .before .shared-slice-known .given i)) (search needs) (search needs) (search needs) (search needs) in (z .0, z .1, search needs)
 
 pub put-tokens-spec : {M : Type 1} → statement M
 put-tokens-spec =
@@ -44,6 +47,7 @@ put-tokens-spec =
     sub-least
     least-requires
     mul-copy
+    add-copy
     mul-copy-2
     sub-copy
     part-copy-start
