@@ -1,10 +1,10 @@
 -- The ways through an edit.
 use Prim.Native.Nat.{ℕ, _+_, _-_, _*_, _≤_}
-use mathlib.Core.Path.{_≡_, ap, _∙_}
+use mathlib.Core.Path.{_≡_, sym, ap, _∙_}
 use mathlib.Core.List.{List}
 use lib.ListN.{length, getD, take, drop}
 use native.Mathlib.Omega.{arith}
-use Rattle.base.specs.Blocks.{zeros, byte-zeros, part-tail}
+use Rattle.base.specs.Blocks.{part-tail}
 use Rattle.grammar.specs.Grammar.{Grammar}
 use Rattle.grammar.specs.Rows.{grammarIn}
 use Rattle.trees.specs.Area.{Area}
@@ -15,7 +15,7 @@ use Rattle.edits.specs.Keeping.{Edit}
 use Rattle.matching.specs.Measure.{treeIn, Built}
 use Rattle.matching.specs.Finding.{Numbers}
 use Rattle.matching.specs.Handing.{Few}
-use Rattle.matching.specs.Through.{Blank, Matching}
+use Rattle.matching.specs.Through.{Matching}
 use Rattle.keeping.specs.Matched.{heldFrom, Old, Fit}
 use Rattle.keeping.specs.Marking.{Keeps as Counts}
 use Rattle.keeping.specs.Filling.{Gives}
@@ -24,6 +24,7 @@ use Rattle.altering.specs.Outcome.{AltersTree}
 use Rattle.altering.specs.Treed.{treed-fits}
 use Rattle.altering.specs.Settling.{Both, both-old, both-new, both-one, both-some, both-numbers, both-fit, both-old-nodes, both-spread, both-fed, both-few, both-alters}
 use Rattle.altering.specs.Parts.{nodes-drop}
+use Rattle.notes.specs.Views.{nodesIn, nodes-in}
 
 -- where an area's header has the number of tokens
 abbrev pub tokensPlace : ℕ
@@ -38,13 +39,6 @@ pub record Doubled (G : Grammar) (S place removed inserted : ℕ) (tree w : List
 -- the new tree is laid out, whichever such edit it was
 pub record SettledAll (G : Grammar) (S place removed inserted : ℕ) (tree w : List ℕ) (o k r : ℕ) (tree' : List ℕ) : Type 0 where
   pub all : (e : Edit) → Numbers e place removed inserted → Both G S e tree w o k → AltersTree G S e tree (Alteration.Altered k r) tree'
-
--- every entry of zeros is 0
-pub blank-zeros : (ms : List ℕ) (n : ℕ) → ms ≡ zeros n → Blank ms
-blank-zeros ms n e = record { each = λ z. ap (λ (u : List ℕ). getD u z 0) e ∙ byte-zeros n z }
-
-pub first-zero : (ms : List ℕ) (n : ℕ) → ms ≡ zeros n → getD ms 0 0 ≡ 0
-first-zero ms n e = blank-zeros ms n e .each 0
 
 module _ (rows : List ℕ) (t n start count S place removed inserted : ℕ) (tree w : List ℕ) (o k : ℕ) (h : Doubled (grammarIn rows t n start count) S place removed inserted tree w o k) where
   abbrev G : Grammar
@@ -90,9 +84,23 @@ module _ (rows : List ℕ) (t n start count S place removed inserted : ℕ) (tre
     pub slots-old : Old S k ms
     slots-old = both-old-nodes rows t n start count S (h .edit) tree w o k (h .both) (h .numbers) m few
 
-    module _ {w' part : List ℕ} (g : Gives w S k (heldFrom w ms k 0) w') (p : part ≡ take (length w' - nodeSize * S) (drop (nodeSize * S) w')) where
-      part-is : nodesFrom part k 0 ≡ nodesFrom w' k S
-      part-is = let z : S + 0 ≡ S = omega arith in rw (p, part-tail w' (nodeSize * S)) (nodes-drop w' S k 0 ∙ ap (nodesFrom w' k) z)
+    -- of a list that is the same
+    module _ {u : List ℕ} (q : u ≡ w) where
+      pub fit-then : Fit S u ms k
+      fit-then = rw q slots-fit
+
+      pub counts-then : {r : ℕ} → Counts u ms k r → Counts w ms k r
+      counts-then c = rw q at c
+
+      pub gives-then : {w' : List ℕ} → Gives u S k (heldFrom u ms k 0) w' → Gives w S k (heldFrom w ms k 0) w'
+      gives-then g = rw q at g
+
+    -- the new nodes in the part that is lent
+    module _ (v : List ℕ) {part : List ℕ} (g : Gives w S k (heldFrom w ms k 0) (nodesIn S v)) (p : part ≡ take (length v - nodeSize * S) (drop (nodeSize * S) v)) where
+      part-is : nodesFrom part k 0 ≡ nodesFrom (nodesIn S v) k S
+      part-is =
+          let z : S + 0 ≡ S = omega arith in
+          rw (p, part-tail v (nodeSize * S)) (nodes-drop v S k 0 ∙ ap (nodesFrom v k) z ∙ sym (nodes-in v S k S (omega (arith, small .new))))
 
       pub laid-spread : Spread S (nodesFrom part k 0)
       laid-spread = rw part-is (both-spread rows t n start count S (h .edit) tree w o k (h .both) (h .numbers) m few g)
@@ -102,7 +110,7 @@ module _ (rows : List ℕ) (t n start count S place removed inserted : ℕ) (tre
 
       pub settled-all : {tree' : List ℕ} (r : ℕ) → Counts w ms k r → Area S (build (arityIn rows) (nodesFrom part k 0)) tree' → SettledAll G S place removed inserted tree w o k r tree'
       settled-all {tree'} r c a =
-          let b : Area S (build (arityIn rows) (nodesFrom w' k S)) tree' = rw part-is at a in
+          let b : Area S (build (arityIn rows) (nodesFrom (nodesIn S v) k S)) tree' = rw part-is at a in
           record { all = λ e s d. both-alters rows t n start count S e tree w o k d s m few g r c b }
 
       pub settled-few : (r : ℕ) → Counts w ms k r → r ≤ o

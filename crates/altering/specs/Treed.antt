@@ -12,6 +12,7 @@ use Rattle.grammar.specs.RowRules.{rule-row}
 use Rattle.trees.specs.Area.{maxSlots, areaSize, Valid}
 use Rattle.trees.specs.Nodes.{preorder, leavesOf, leaves-yield, Arity, derives-formed}
 use Rattle.trees.specs.Coded.{nodeSize, nodesFrom, arityIn}
+use Rattle.notes.specs.Views.{notesSize}
 use Rattle.plain.specs.Machine.{length-symbols}
 use Rattle.walks.specs.Reading.{valid-few, size-preorder}
 use Rattle.walks.specs.Closing.{Reads}
@@ -61,9 +62,9 @@ module _ (rows : List ℕ) (t n start count S : ℕ) (tree nodes : List ℕ) (o 
   pub treed-sized : (1 ≤ S) × (S ≤ maxSlots) × (o ≤ S) × (length tree ≡ areaSize S)
   treed-sized = (h .valid .some, h .valid .few, treed-fits, h .valid .area .long)
 
-  -- the work area holds both lists of nodes
+  -- the work area has room for both lists of nodes and what is noted, and for the new sentence behind them
   pub treed-long : workAreas * length tree ≤ length nodes → nodeSize * S ≤ length nodes
   treed-long l = omega (arith, h .valid .area .long)
 
-  pub treed-room : (x : ℕ) → workAreas * length tree ≤ length nodes → x ≡ length nodes → nodeSize * (S + S) ≤ x
+  pub treed-room : (x : ℕ) → workAreas * length tree ≤ length nodes → x ≡ length nodes → notesSize S ≤ x
   treed-room x l e = omega (arith, h .valid .area .long)

@@ -1,29 +1,19 @@
 // An edit of a valid tree by good tokens: the new sentence is formed and parsed, its nodes get their slots, and the area is laid out.
 use plain::Parsed;
 ghost use mathlib.Core.Path.{_≡_};
-ghost use Prim.Native.Nat.{_+_, _*_, _<_, _≤_};
+ghost use Prim.Native.Nat.{_+_, _*_, _≤_};
 ghost use lib.ListN.{length};
 ghost use Rattle.grammar.specs.Rows.{grammarIn};
 ghost use Rattle.trees.specs.Area.{maxSlots, areaSize};
-ghost use Rattle.trees.specs.Coded.{nodeSize};
 ghost use Rattle.base.specs.Bytes.{get16};
 ghost use Rattle.grammar.specs.Prediction.{Prepared};
 ghost use Rattle.tables.specs.Tables.{Tables};
+ghost use Rattle.notes.specs.Views.{notesSize, nodesIn};
 ghost use Rattle.plain.specs.Tokens.{tokenSize, Sentence, tokensFrom};
 ghost use Rattle.sentences.specs.Forming.{editOf};
 ghost use Rattle.altering.specs.Treed.{workAreas, Treed};
 ghost use Rattle.altering.specs.Outcome.{AltersTree, Few};
 ghost use Rattle.altering.specs.Altering.{tokensPlace, Doubled, SettledAll};
-
-// Room for both lists of nodes, for one of them, and for a mark or a number for each slot and one more.
-const LISTS_SIZE: usize = 2 * trees::MAX_SLOTS;
-
-const LIST_SIZE: usize = trees::MAX_SLOTS;
-
-const MARKS_SIZE: usize = trees::MAX_SLOTS + 1;
-
-// A parse looks at no more tokens than there are slots, and one more.
-const TEXT_SIZE: usize = plain::TOKEN_SIZE * (trees::MAX_SLOTS + 1);
 
 // The new tree has so many nodes, of which so many kept their slots; or the plain parse refuses the new sentence.
 pub enum Alteration {
@@ -32,7 +22,8 @@ pub enum Alteration {
     NoRoom,
 }
 
-// Gives the k nodes of the new tree their slots and lays them out; how many are kept. They stand in the work area behind room for `slots` nodes of the old tree, which has o.
+// Gives the k nodes of the new tree their slots and lays them out; how many are kept. They stand in the work area behind room for `slots` nodes of the old tree, which has o;
+// what is noted of both stands behind them.
 fn settle(
     rows: &[u8],
     t: usize,
@@ -48,34 +39,16 @@ fn settle(
     work: &mut [u8],
     tree: &mut [u8],
 ) -> usize
-    requires { ⌜ Doubled (grammarIn (now rows) t n start count) slots place removed inserted (now tree) (now work) o k × (slots ≤ maxSlots) × (length (now tree) ≡ areaSize slots) × (nodeSize * (slots + slots) ≤ length (now work)) ⌝ }
-    ensures { λ r. ⌜ SettledAll (grammarIn (now (rows .entry)) t n start count) slots place removed inserted (now (tree .entry)) (now (work .entry)) o k r (now (tree .exit)) × (r ≤ k) × (r ≤ o) ⌝ }
+    requires { ⌜ Doubled (grammarIn (now rows) t n start count) slots place removed inserted (now tree) (nodesIn slots (now work)) o k × (slots ≤ maxSlots) × (length (now tree) ≡ areaSize slots) × (notesSize slots ≤ length (now work)) ⌝ }
+    ensures { λ r. ⌜ SettledAll (grammarIn (now (rows .entry)) t n start count) slots place removed inserted (now (tree .entry)) (nodesIn slots (now (work .entry))) o k r (now (tree .exit)) × (r ≤ k) × (r ≤ o) ⌝ }
 {
-    let mut ends = [0u16; LISTS_SIZE];
-    let mut widths = [0u16; LISTS_SIZE];
-    let mut starts = [0u16; MARKS_SIZE];
-    let mut matches = [0u16; LIST_SIZE];
-    let mut marks = [0u8; MARKS_SIZE];
-    matching::match_nodes(
-        work,
-        o,
-        slots,
-        k,
-        rows,
-        place,
-        removed,
-        inserted,
-        &mut ends,
-        &mut widths,
-        &mut starts,
-        &mut matches,
-    );
-    let kept = keeping::give_slots(work, slots, k, slots, &matches, &mut marks);
+    let kept = keeping::give_slots(work, slots, k);
     trees::lay_out(&work[trees::NODE_SIZE * slots..], k, rows, slots, tree);
     kept
 }
 
-// Replaces a run of the tree's tokens. Its o nodes stand at the beginning of the work area, and the range was looked at.
+// Replaces a run of the tree's tokens. Its o nodes stand at the beginning of the work area, and the range was looked at. Behind room for both trees' nodes the new sentence
+// is formed, as far as a parse looks at it.
 pub fn alter(
     rows: &[u8],
     t: usize,
@@ -95,10 +68,9 @@ pub fn alter(
     requires { ⌜ Prepared (grammarIn (now rows) t n start count) × Tables (grammarIn (now rows) t n start count) (now tables) × Treed (grammarIn (now rows) t n start count) slots (now tree) (now work) o × Sentence t (now tokens) (tokensFrom (now tokens) m 0) × (length (now tokens) ≡ tokenSize * m) × (place + removed ≤ get16 (now tree) tokensPlace) × (workAreas * length (now tree) ≤ length (now work)) ⌝ }
     ensures { λ r. ⌜ AltersTree (grammarIn (now (rows .entry)) t n start count) slots (editOf place removed (tokensFrom (now (tokens .entry)) m 0)) (now (tree .entry)) r (now (tree .exit)) × Few o r ⌝ }
 {
-    let mut text = [0u8; TEXT_SIZE];
-    let r = sentences::new_sentence(work, o, place, removed, tokens, m, slots + 1, &mut text);
+    let text = trees::NODE_SIZE * (slots + slots);
+    let r = sentences::new_sentence(work, o, place, removed, tokens, m, slots + 1, text);
     match plain::parse(
-        &text[0..plain::TOKEN_SIZE * r],
         r,
         tables,
         rows,

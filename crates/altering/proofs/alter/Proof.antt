@@ -2,18 +2,22 @@ use Rattle.altering.specs.Treed.{treed-sized, treed-long, treed-room}
 use Rattle.altering.specs.Outcome.{Few}
 use Rattle.altering.specs.Course.{course-ground, course-syntax, course-room, course-fits, course-doubled, course-settled, few-altered}
 use Rattle.plain.specs.Outcome.{is-done}
+use mathlib.Core.Path.{refl}
 use borrow.Author.Needs.{needs}
 use Rattle.altering.proofs.alter.Statement.{statement}
 use Rattle.altering.proofs.alter.Tie as tie
 
+add-text : tie.Need-add-text
+add-text c = search needs
+
+mul-text : tie.Need-mul-text
+mul-text c = search needs
+
 add-new-sentence : tie.Need-add-new-sentence
 add-new-sentence c = search needs
 
-slice-aggregate-new-sentence : tie.Need-slice-aggregate-new-sentence
-slice-aggregate-new-sentence c = search needs
-
 new-sentence-requires : tie.Need-new-sentence-requires
-new-sentence-requires c κs = let f = treed-sized _ _ _ _ _ _ _ _ _ (c .before .before .before .before .before .before .before .pre .2) in search needs
+new-sentence-requires c κs = let f = treed-sized _ _ _ _ _ _ _ _ _ (c .before .before .before .before .before .before .pre .2) in (search needs, search needs, search needs, search needs)
 
 mul-parse : tie.Need-mul-parse
 mul-parse c = search needs
@@ -27,26 +31,14 @@ part-parse-start c = search needs
 part-parse-end : tie.Need-part-parse-end
 part-parse-end c = search needs
 
-mul-parse-2 : tie.Need-mul-parse-2
-mul-parse-2 c = search needs
-
-sub-parse-2 : tie.Need-sub-parse-2
-sub-parse-2 c = search needs
-
-part-parse-start-2 : tie.Need-part-parse-start-2
-part-parse-start-2 c = search needs
-
-part-parse-end-2 : tie.Need-part-parse-end-2
-part-parse-end-2 c = search needs
-
 parse-requires : tie.Need-parse-requires
-parse-requires c κs = let f = treed-sized _ _ _ _ _ _ _ _ _ (c .before .before .before .before .before .before .before .before .before .before .before .before .pre .2) in (course-ground _ _ _ _ _ _ _ _ _ _ _ _ _ (c .before .before .before .before .before .before .before .before .before .before .before .before .pre .0) (c .before .before .before .before .before .before .before .before .before .before .before .before .pre .2) (c .before .before .before .before .before .before .before .before .before .before .before .before .pre .3) (c .before .before .before .before .new-sentence .ensures .0) (c .before .before .before .before .before .before .before .before .before .before .before .before .pre .1), search needs, search needs, search needs)
+parse-requires c κs = let f = treed-sized _ _ _ _ _ _ _ _ _ (c .before .before .before .before .before .before .before .before .before .before .pre .2) in (course-ground _ _ _ _ _ _ _ _ _ _ _ _ _ (c .before .before .before .before .before .before .before .before .before .before .pre .0) (c .before .before .before .before .before .before .before .before .before .before .pre .2) (c .before .before .before .before .before .before .before .before .before .before .pre .3) (c .before .before .before .new-sentence .ensures .1) (c .before .before .before .new-sentence .ensures .0) refl (c .before .before .before .before .before .before .before .before .before .before .pre .1), search needs, search needs, search needs)
 
 enum-known-k : tie.Need-enum-known-k
 enum-known-k c = search needs
 
 settle-requires : tie.Need-settle-requires
-settle-requires c κs = let f = treed-sized _ _ _ _ _ _ _ _ _ (c .before .before .before .before .before .before .before .before .before .before .before .before .before .before .before .before .before .before .before .before .pre .2) in (course-doubled _ _ _ _ _ _ _ _ _ _ _ _ _ (c .before .before .before .before .before .before .before .before .before .before .before .before .before .before .before .before .before .before .before .before .pre .0) (c .before .before .before .before .before .before .before .before .before .before .before .before .before .before .before .before .before .before .before .before .pre .2) (c .before .before .before .before .before .before .before .before .before .before .before .before .before .before .before .before .before .before .before .before .pre .3) (c .before .before .before .before .before .before .before .before .before .before .before .before .new-sentence .ensures .0) (search needs) (c .before .before .before .before .before .before .before .before .before .before .before .before .before .before .before .before .before .before .before .before .pre .5) _ (is-done _ (c .before .before .before .before .before .before .before .parse .ensures) (search needs)) (treed-long _ _ _ _ _ _ _ _ _ (c .before .before .before .before .before .before .before .before .before .before .before .before .before .before .before .before .before .before .before .before .pre .2) (c .before .before .before .before .before .before .before .before .before .before .before .before .before .before .before .before .before .before .before .before .pre .6)), f .1, f .3, treed-room _ _ _ _ _ _ _ _ _ (c .before .before .before .before .before .before .before .before .before .before .before .before .before .before .before .before .before .before .before .before .pre .2) _ (c .before .before .before .before .before .before .before .before .before .before .before .before .before .before .before .before .before .before .before .before .pre .6) (search needs))
+settle-requires c κs = let f = treed-sized _ _ _ _ _ _ _ _ _ (c .before .before .before .before .before .before .before .before .before .before .before .before .before .before .before .before .before .before .pre .2) in (course-doubled _ _ _ _ _ _ _ _ _ _ _ _ _ (c .before .before .before .before .before .before .before .before .before .before .before .before .before .before .before .before .before .before .pre .0) (c .before .before .before .before .before .before .before .before .before .before .before .before .before .before .before .before .before .before .pre .2) (c .before .before .before .before .before .before .before .before .before .before .before .before .before .before .before .before .before .before .pre .3) (c .before .before .before .before .before .before .before .before .before .before .before .new-sentence .ensures .1) (c .before .before .before .before .before .before .before .before .before .before .before .new-sentence .ensures .0) refl (search needs) (c .before .before .before .before .before .before .before .before .before .before .before .before .before .before .before .before .before .before .pre .5) _ (is-done _ (c .before .before .before .before .before .before .before .parse .ensures) (search needs)) (treed-long _ _ _ _ _ _ _ _ _ (c .before .before .before .before .before .before .before .before .before .before .before .before .before .before .before .before .before .before .pre .2) (c .before .before .before .before .before .before .before .before .before .before .before .before .before .before .before .before .before .before .pre .6)), f .1, f .3, treed-room _ _ _ _ _ _ _ _ _ (c .before .before .before .before .before .before .before .before .before .before .before .before .before .before .before .before .before .before .pre .2) _ (c .before .before .before .before .before .before .before .before .before .before .before .before .before .before .before .before .before .before .pre .6) (search needs))
 
 enum-known-token : tie.Need-enum-known-token
 enum-known-token c = search needs
@@ -61,35 +53,32 @@ same-length-2 : tie.Need-same-length-2
 same-length-2 c = search needs
 
 returns : tie.Need-returns
-returns c = let f = treed-sized _ _ _ _ _ _ _ _ _ (c .before .before .before .before .before .before .before .before .before .before .before .before .before .before .before .before .before .before .before .before .before .before .before .before .before .pre .2) in (course-settled _ _ _ _ _ _ _ _ _ _ _ _ _ (c .before .before .before .before .before .before .before .before .before .before .before .before .before .before .before .before .before .before .before .before .before .before .before .before .before .pre .0) (c .before .before .before .before .before .before .before .before .before .before .before .before .before .before .before .before .before .before .before .before .before .before .before .before .before .pre .2) (c .before .before .before .before .before .before .before .before .before .before .before .before .before .before .before .before .before .before .before .before .before .before .before .before .before .pre .3) (c .before .before .before .before .before .before .before .before .before .before .before .before .before .before .before .before .before .new-sentence .ensures .0) (search needs) (c .before .before .before .before .before .before .before .before .before .before .before .before .before .before .before .before .before .before .before .before .before .before .before .before .before .pre .5) _ (is-done _ (c .before .before .before .before .before .before .before .before .before .before .before .before .parse .ensures) (search needs)) (treed-long _ _ _ _ _ _ _ _ _ (c .before .before .before .before .before .before .before .before .before .before .before .before .before .before .before .before .before .before .before .before .before .before .before .before .before .pre .2) (c .before .before .before .before .before .before .before .before .before .before .before .before .before .before .before .before .before .before .before .before .before .before .before .before .before .pre .6)) (c .before .before .before .before .settle .ensures .0), few-altered (c .before .before .before .before .settle .ensures .1) (c .before .before .before .before .settle .ensures .2) (course-fits _ _ _ _ _ _ _ _ _ _ _ _ _ (c .before .before .before .before .before .before .before .before .before .before .before .before .before .before .before .before .before .before .before .before .before .before .before .before .before .pre .0) (c .before .before .before .before .before .before .before .before .before .before .before .before .before .before .before .before .before .before .before .before .before .before .before .before .before .pre .2) (c .before .before .before .before .before .before .before .before .before .before .before .before .before .before .before .before .before .before .before .before .before .before .before .before .before .pre .3) (c .before .before .before .before .before .before .before .before .before .before .before .before .before .before .before .before .before .new-sentence .ensures .0) (search needs) (c .before .before .before .before .before .before .before .before .before .before .before .before .before .before .before .before .before .before .before .before .before .before .before .before .before .pre .5) _ (is-done _ (c .before .before .before .before .before .before .before .before .before .before .before .before .parse .ensures) (search needs)) (treed-long _ _ _ _ _ _ _ _ _ (c .before .before .before .before .before .before .before .before .before .before .before .before .before .before .before .before .before .before .before .before .before .before .before .before .before .pre .2) (c .before .before .before .before .before .before .before .before .before .before .before .before .before .before .before .before .before .before .before .before .before .before .before .before .before .pre .6))) (f .1))
+returns c = let f = treed-sized _ _ _ _ _ _ _ _ _ (c .before .before .before .before .before .before .before .before .before .before .before .before .before .before .before .before .before .before .before .before .before .before .before .pre .2) in (course-settled _ _ _ _ _ _ _ _ _ _ _ _ _ (c .before .before .before .before .before .before .before .before .before .before .before .before .before .before .before .before .before .before .before .before .before .before .before .pre .0) (c .before .before .before .before .before .before .before .before .before .before .before .before .before .before .before .before .before .before .before .before .before .before .before .pre .2) (c .before .before .before .before .before .before .before .before .before .before .before .before .before .before .before .before .before .before .before .before .before .before .before .pre .3) (c .before .before .before .before .before .before .before .before .before .before .before .before .before .before .before .before .new-sentence .ensures .1) (c .before .before .before .before .before .before .before .before .before .before .before .before .before .before .before .before .new-sentence .ensures .0) refl (search needs) (c .before .before .before .before .before .before .before .before .before .before .before .before .before .before .before .before .before .before .before .before .before .before .before .pre .5) _ (is-done _ (c .before .before .before .before .before .before .before .before .before .before .before .before .parse .ensures) (search needs)) (treed-long _ _ _ _ _ _ _ _ _ (c .before .before .before .before .before .before .before .before .before .before .before .before .before .before .before .before .before .before .before .before .before .before .before .pre .2) (c .before .before .before .before .before .before .before .before .before .before .before .before .before .before .before .before .before .before .before .before .before .before .before .pre .6)) (c .before .before .before .before .settle .ensures .0), few-altered (c .before .before .before .before .settle .ensures .1) (c .before .before .before .before .settle .ensures .2) (course-fits _ _ _ _ _ _ _ _ _ _ _ _ _ (c .before .before .before .before .before .before .before .before .before .before .before .before .before .before .before .before .before .before .before .before .before .before .before .pre .0) (c .before .before .before .before .before .before .before .before .before .before .before .before .before .before .before .before .before .before .before .before .before .before .before .pre .2) (c .before .before .before .before .before .before .before .before .before .before .before .before .before .before .before .before .before .before .before .before .before .before .before .pre .3) (c .before .before .before .before .before .before .before .before .before .before .before .before .before .before .before .before .new-sentence .ensures .1) (c .before .before .before .before .before .before .before .before .before .before .before .before .before .before .before .before .new-sentence .ensures .0) refl (search needs) (c .before .before .before .before .before .before .before .before .before .before .before .before .before .before .before .before .before .before .before .before .before .before .before .pre .5) _ (is-done _ (c .before .before .before .before .before .before .before .before .before .before .before .before .parse .ensures) (search needs)) (treed-long _ _ _ _ _ _ _ _ _ (c .before .before .before .before .before .before .before .before .before .before .before .before .before .before .before .before .before .before .before .before .before .before .before .pre .2) (c .before .before .before .before .before .before .before .before .before .before .before .before .before .before .before .before .before .before .before .before .before .before .before .pre .6))) (f .1))
 
 same-length-3 : tie.Need-same-length-3
 same-length-3 c = search needs
 
 returns-2 : tie.Need-returns-2
-returns-2 c = (course-syntax _ _ _ _ _ _ _ _ _ _ _ _ _ (c .before .before .before .before .before .before .before .before .before .before .before .before .before .before .before .before .before .before .pre .0) (c .before .before .before .before .before .before .before .before .before .before .before .before .before .before .before .before .before .before .pre .2) (c .before .before .before .before .before .before .before .before .before .before .before .before .before .before .before .before .before .before .pre .3) (c .before .before .before .before .before .before .before .before .before .before .new-sentence .ensures .0) (search needs) _ _ (c .before .before .before .before .before .parse .ensures) (search needs), Few.wrong-syntax)
+returns-2 c = (course-syntax _ _ _ _ _ _ _ _ _ _ _ _ _ (c .before .before .before .before .before .before .before .before .before .before .before .before .before .before .before .before .pre .0) (c .before .before .before .before .before .before .before .before .before .before .before .before .before .before .before .before .pre .2) (c .before .before .before .before .before .before .before .before .before .before .before .before .before .before .before .before .pre .3) (c .before .before .before .before .before .before .before .before .before .new-sentence .ensures .1) (c .before .before .before .before .before .before .before .before .before .new-sentence .ensures .0) refl (search needs) _ _ (c .before .before .before .before .before .parse .ensures) (search needs), Few.wrong-syntax)
 
 same-length-4 : tie.Need-same-length-4
 same-length-4 c = search needs
 
 returns-3 : tie.Need-returns-3
-returns-3 c = (course-room _ _ _ _ _ _ _ _ _ _ _ _ _ (c .before .before .before .before .before .before .before .before .before .before .before .before .before .before .before .before .before .pre .0) (c .before .before .before .before .before .before .before .before .before .before .before .before .before .before .before .before .before .pre .2) (c .before .before .before .before .before .before .before .before .before .before .before .before .before .before .before .before .before .pre .3) (c .before .before .before .before .before .before .before .before .before .new-sentence .ensures .0) (search needs) (c .before .before .before .before .parse .ensures) (search needs), Few.no-room)
+returns-3 c = (course-room _ _ _ _ _ _ _ _ _ _ _ _ _ (c .before .before .before .before .before .before .before .before .before .before .before .before .before .before .before .pre .0) (c .before .before .before .before .before .before .before .before .before .before .before .before .before .before .before .pre .2) (c .before .before .before .before .before .before .before .before .before .before .before .before .before .before .before .pre .3) (c .before .before .before .before .before .before .before .before .new-sentence .ensures .1) (c .before .before .before .before .before .before .before .before .new-sentence .ensures .0) refl (search needs) (c .before .before .before .before .parse .ensures) (search needs), Few.no-room)
 
 pub alter-spec : {M : Type 1} → statement M
 alter-spec =
     tie.close
     (tie.spec
+    add-text
+    mul-text
     add-new-sentence
-    slice-aggregate-new-sentence
     new-sentence-requires
     mul-parse
     sub-parse
     part-parse-start
     part-parse-end
-    mul-parse-2
-    sub-parse-2
-    part-parse-start-2
-    part-parse-end-2
     parse-requires
     enum-known-k
     settle-requires
