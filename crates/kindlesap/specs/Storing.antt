@@ -15,7 +15,7 @@ use Rattle.trees.specs.Nodes.{Node, preorder, lists-forest, build, Formed, buil
 use Rattle.trees.specs.Coded.{nodeSize, nodesFrom, length-nodes, arityIn}
 use Rattle.trees.specs.Spread.{slotsOf, Spread, slots-build, size-build}
 use Rattle.plain.specs.Exactly.{accepted-exactly}
-use Rattle.plain.specs.Tokens.{Sentence, tokensFrom}
+use Rattle.plain.specs.Tokens.{tokenSize, Sentence, tokensFrom}
 use Rattle.plain.specs.Machine.{Ground, Numbered, Done}
 use Rattle.plain.specs.Outcome.{Told, Ran, is-wrong, is-full, is-good, is-bad}
 use Rattle.plain.specs.declared.Tokens.{Tokens}
@@ -158,6 +158,6 @@ grounded rows t n start count tables b m p h u e = let c = is-good m u e in reco
 pub sentence-told : {t : ℕ} {b : List ℕ} {r : Tokens} (m : ℕ) → Told t b r → r ≡ Tokens.Good m → Sentence t b (tokensFrom b m 0)
 sentence-told m u e = is-good m u e .sentence
 
--- the work area holds the nodes and the stack
-pub room-for : (S : ℕ) (tree : List ℕ) (room : ℕ) → Sized S tree → workAreas * length tree ≤ room → nodeSize * S + S ≤ room
+-- the work area holds the nodes, the tokens that a parse looks at, and the stack
+pub room-for : (S : ℕ) (tree : List ℕ) (room : ℕ) → Sized S tree → workAreas * length tree ≤ room → nodeSize * S + tokenSize * (S + 1) + S ≤ room
 room-for S tree room z l = omega (arith, z .long, l)

@@ -180,7 +180,7 @@ fn parse_tokens(
     requires { ⌜ Ground (now rows) t n start count (now tables) (now tokens) m × Sized slots (now tree) × (workAreas * length (now tree) ≤ length (now work)) × Sentence t (now tokens) (tokensFrom (now tokens) m 0) ⌝ }
     ensures { λ r. ⌜ Fits (now (tables .entry)) (now (tokens .entry)) (length (now (work .entry))) (now (tree .entry)) (grammarIn (now (rows .entry)) t n start count) r (now (tree .exit)) ⌝ }
 {
-    match plain::parse(tokens, m, tables, rows, t, n, start, count, slots, work) {
+    match parsing::parse_lent(tokens, m, tables, rows, t, n, start, count, slots, work) {
         Parsed::Accepted(o) => store(
             tokens,
             m,

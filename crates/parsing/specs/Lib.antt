@@ -1,0 +1,2 @@
+-- Laws: a parse of the first lent tokens, in the work area.
+pub mod Front
