@@ -18,7 +18,8 @@ ghost use Rattle.sets.specs.Words.{setsSize};
 ghost use Rattle.grammar.specs.Prediction.{Prepared};
 ghost use Rattle.tables.specs.Tables.{predictionsSize, Tables};
 ghost use Rattle.tables.specs.Outcome.{Ready};
-ghost use Rattle.plain.specs.Tokens.{Sentence, tokensFrom};
+ghost use Rattle.trees.specs.Coded.{nodeSize};
+ghost use Rattle.plain.specs.Tokens.{tokenSize, Sentence, tokensFrom};
 ghost use Rattle.plain.specs.Machine.{Ground, Done};
 ghost use Rattle.kindlesap.specs.Judged.{Judged, Opened};
 ghost use Rattle.kindlesap.specs.Judging.{Found};
@@ -487,7 +488,7 @@ pub fn edit(
     r
 }
 
-// Reply 11, or the tokens of the tree whose o nodes are listed.
+// Reply 11, or the tokens of the tree whose o nodes are listed. They are put together behind the room for nodes.
 fn give_back(
     rows: &[u8],
     t: usize,
@@ -496,11 +497,11 @@ fn give_back(
     count: usize,
     slots: usize,
     tree: &[u8],
-    nodes: &[u8],
+    work: &mut [u8],
     o: usize,
     output: &mut [u8],
 ) -> Reply
-    requires { ⌜ Treed (grammarIn (now rows) t n start count) slots (now tree) (now nodes) o ⌝ }
+    requires { ⌜ Treed (grammarIn (now rows) t n start count) slots (now tree) (now work) o × (nodeSize * slots + tokenSize * slots ≤ length (now work)) ⌝ }
     ensures { λ r. ⌜ Returns (now (tree .entry)) (now (output .entry)) (grammarIn (now (rows .entry)) t n start count) r (now (output .exit)) ⌝ }
 {
     let tokens = base::get16(tree, editing::TOKENS_PLACE);
@@ -508,7 +509,7 @@ fn give_back(
     if output.len() < need {
         return Reply::Refused(Reason::ShortOutput(need as u64));
     }
-    sentences::give(nodes, o, 0, output, 0, tokens);
+    sentences::give_out(work, o, trees::NODE_SIZE * slots, tokens, output);
     Reply::Accepted(Counts {
         total: o as u32,
         kept: 0,
@@ -536,7 +537,7 @@ fn read_fit(
     let mut work = [0u8; editing::WALK_SIZE];
     let mut marks = [0u8; editing::MARKS_SIZE];
     match walks::read_tree(tree, slots, rows, t, n, start, count, &mut work, &mut marks) {
-        Walked::Tree(o) => give_back(rows, t, n, start, count, slots, tree, &work, o, output),
+        Walked::Tree(o) => give_back(rows, t, n, start, count, slots, tree, &mut work, o, output),
         Walked::NoTree => Reply::Refused(Reason::WrongTree),
     }
 }

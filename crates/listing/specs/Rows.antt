@@ -2,7 +2,7 @@
 use Prim.Native.Nat.{ℕ, zero, suc, _+_, _*_, _≤_, _<_}
 use mathlib.Core.Path.{_≡_, refl, sym, ap, _∙_}
 use mathlib.Core.List.{List, [], _∷_, _++_, append-assoc, append-nil}
-use lib.ListN.{length, length-append}
+use lib.ListN.{length}
 use native.Mathlib.Omega.{arith}
 use Rattle.base.specs.Bytes.{byteAt, get16, leBytes}
 use Rattle.base.specs.Blocks.{zeros}
@@ -12,6 +12,7 @@ use Rattle.trees.specs.Slots.{slot-byte}
 use Rattle.trees.specs.Spread.{length-slots}
 use Rattle.walks.specs.Slots.{symbolIn, productionIn, parentIn, tagIn, Fields, fields}
 use Rattle.kindlesap.specs.Parse.{upFrom}
+use Rattle.kindlesap.specs.Returning.{length-yield}
 use Rattle.listing.specs.Text.{row, firstRow, nodeRows, acceptedText}
 use Rattle.listing.specs.Writing.{Written, written-none, written-join}
 
@@ -72,11 +73,6 @@ cut s (suc n) m (x ∷ u) v l e =
     let d : u ++ v ≡ upFrom (s + 1) (n + m) = cc in
     let z = cut (s + 1) n m u v (omega arith) d in
     (rw (y, z .0), rw p at (z .1))
-
-length-yield : (f : Forest) → length (yield f) ≤ size f
-length-yield Forest.nil = omega arith
-length-yield (Forest.leaf s a g r) = omega (arith, length-yield r)
-length-yield (Forest.node s M p k r) = omega (arith, length-append (yield k) (yield r), length-yield k, length-yield r)
 
 -- a slot's row has its fields
 slot-row : {b : List ℕ} {s x p par first next g : ℕ} → Fields b s x p par first next g → par < 65536 → g < tagSpace → slotRow b s ≡ row (s ∷ x ∷ p ∷ par ∷ g ∷ [])

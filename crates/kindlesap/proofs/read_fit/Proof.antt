@@ -26,7 +26,7 @@ slice-aggregate-give-back : tie.Need-slice-aggregate-give-back
 slice-aggregate-give-back c = search needs
 
 give-back-requires : tie.Need-give-back-requires
-give-back-requires c κs = treed _ (c .before .before .before .before .before .before .before .read-tree .ensures) (search needs)
+give-back-requires c κs = let z = c .before .before .before .before .before .before .before .before .before .before .before .slots-of .ensures .right (c .before .before .before .before .before .before .before .before .before .before .if1 .left) .1 in (treed _ (c .before .before .before .before .before .before .before .read-tree .ensures) (search needs), search needs)
 
 enum-told : tie.Need-enum-told
 enum-told c = search needs
@@ -35,7 +35,7 @@ same-length : tie.Need-same-length
 same-length c = search needs
 
 returns-2 : tie.Need-returns-2
-returns-2 c = c .before .before .give-back .ensures
+returns-2 c = c .before .before .before .give-back .ensures
 
 returns-3 : tie.Need-returns-3
 returns-3 c = let z = c .before .before .before .before .before .before .before .before .slots-of .ensures .right (c .before .before .before .before .before .before .before .if1 .left) .2 in returns-none _ _ _ _ (search needs) (untreed (c .before .before .before .before .read-tree .ensures) (search needs))
