@@ -1,62 +1,53 @@
-use Rattle.matching.specs.Measure.{treeIn, Built, Gauged, gauge-start, gauge-next, gauge-more, gauge-end}
-use Prim.Native.Nat.{_≤_}
 use borrow.Author.Needs.{needs}
+use native.Mathlib.Omega.{arith}
 use Rattle.matching.proofs.measure.Statement.{statement}
 use Rattle.matching.proofs.measure.Tie as tie
+use Rattle.matching.proofs.measure.Reads as reads
+use Rattle.matching.proofs.measure.Lts as lts
+use Rattle.matching.proofs.span_of.Reads as span-of-reads
+use Rattle.notes.proofs.set_span.Reads as set-span-reads
 
 abbrev Inv-loop : tie.InvT-loop
-Inv-loop nodes base n rows ends₀ widths₀ i₀ ends widths i = (i ≤ n) × Built rows nodes n base × Gauged (treeIn rows nodes n base) base i ends₀ widths₀ ends widths
+Inv-loop work₀ slots base n rows i₀ work i = ?
 
 abbrev μ-loop : tie.MeasureT-loop
-μ-loop nodes base n rows ends₀ widths₀ i₀ ends widths i = i
+μ-loop work₀ slots base n rows i₀ work i = ?
 
+-- src/lib.rt:52:5
 loop-holds : tie.Need-loop-holds Inv-loop μ-loop
-loop-holds c = (search needs, search needs, search (gauge-start, needs))
+loop-holds c = search needs
 
+-- src/lib.rt:53:9
 sub-i : tie.Need-sub-i Inv-loop μ-loop
 sub-i c = search needs
 
+-- src/lib.rt:54:13
 span-of-requires : tie.Need-span-of-requires Inv-loop μ-loop
-span-of-requires c κs = (search needs, search needs, search needs, search needs, search needs, search (gauge-next, needs))
+span-of-requires c κs = search needs
 
-cast-ends : tie.Need-cast-ends Inv-loop μ-loop
-cast-ends c = search needs
+-- src/lib.rt:55:38
+add-set-span : tie.Need-add-set-span Inv-loop μ-loop
+add-set-span c = search needs
 
-add-ends : tie.Need-add-ends Inv-loop μ-loop
-add-ends c = search needs
+-- src/lib.rt:55:9
+set-span-requires : tie.Need-set-span-requires Inv-loop μ-loop
+set-span-requires c κs = search needs
 
-mul-ends : tie.Need-mul-ends Inv-loop μ-loop
-mul-ends c = search needs
-
-slice-write-ends : tie.Need-slice-write-ends Inv-loop μ-loop
-slice-write-ends c = search needs
-
-cast-widths : tie.Need-cast-widths Inv-loop μ-loop
-cast-widths c = search needs
-
-add-widths : tie.Need-add-widths Inv-loop μ-loop
-add-widths c = search needs
-
-mul-widths : tie.Need-mul-widths Inv-loop μ-loop
-mul-widths c = search needs
-
-slice-write-widths : tie.Need-slice-write-widths Inv-loop μ-loop
-slice-write-widths c = search needs
-
+-- src/lib.rt:52:5
 loop-less : tie.Need-loop-less Inv-loop μ-loop
 loop-less c = search needs
 
+-- src/lib.rt:52:5
 loop-again : tie.Need-loop-again Inv-loop μ-loop
-loop-again c = (search needs, search needs, gauge-more _ _ (c .before .before .before .before .before .before .loop .inv .2) (c .before .before .before .before .before .loop-test .taken) (search needs) (search needs) (c .before .before .span-of .ensures .0))
+loop-again c = search needs
 
+-- src/lib.rt:47:1
 same-length : tie.Need-same-length Inv-loop μ-loop
 same-length c = search needs
 
-same-length-2 : tie.Need-same-length-2 Inv-loop μ-loop
-same-length-2 c = search needs
-
+-- src/lib.rt:47:1
 returns : tie.Need-returns Inv-loop μ-loop
-returns c = gauge-end (c .before .loop .inv .2) (search needs)
+returns c = search needs
 
 pub measure-spec : {M : Type 1} → statement M
 measure-spec =
@@ -67,16 +58,9 @@ measure-spec =
     loop-holds
     sub-i
     span-of-requires
-    cast-ends
-    add-ends
-    mul-ends
-    slice-write-ends
-    cast-widths
-    add-widths
-    mul-widths
-    slice-write-widths
+    add-set-span
+    set-span-requires
     loop-less
     loop-again
     same-length
-    same-length-2
     returns)
