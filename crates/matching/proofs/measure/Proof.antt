@@ -1,53 +1,48 @@
+use Rattle.notes.specs.Views.{nodesIn, endsIn, widthsIn, startsIn, matchesIn, Viewed, length-ends, length-widths}
+use Rattle.matching.specs.Measure.{treeIn, Gauged, gauge-start, gauge-next, gauge-more, gauge-end}
+use Rattle.matching.specs.Noted.{viewed-all, spans-on, built-in, measured-in, spanned-out}
+use Prim.Native.Nat.{_≤_}
+use mathlib.Core.Path.{_≡_}
+use lib.ListN.{length}
 use borrow.Author.Needs.{needs}
-use native.Mathlib.Omega.{arith}
 use Rattle.matching.proofs.measure.Statement.{statement}
 use Rattle.matching.proofs.measure.Tie as tie
-use Rattle.matching.proofs.measure.Reads as reads
-use Rattle.matching.proofs.measure.Lts as lts
-use Rattle.matching.proofs.span_of.Reads as span-of-reads
-use Rattle.notes.proofs.set_span.Reads as set-span-reads
 
 abbrev Inv-loop : tie.InvT-loop
-Inv-loop work₀ slots base n rows i₀ work i = ?
+Inv-loop work₀ slots base n rows i₀ work i = 
+    (i ≤ n) × (length work ≡ length work₀) × Gauged (treeIn rows (nodesIn slots work₀) n base) base i (endsIn slots work₀) (widthsIn slots work₀) (endsIn slots work) (widthsIn slots work)
+    × Viewed slots work (nodesIn slots work₀) (endsIn slots work) (widthsIn slots work) (startsIn slots work₀) (matchesIn slots work₀)
 
 abbrev μ-loop : tie.MeasureT-loop
-μ-loop work₀ slots base n rows i₀ work i = ?
+μ-loop work₀ slots base n rows i₀ work i = i
 
--- src/lib.rt:52:5
 loop-holds : tie.Need-loop-holds Inv-loop μ-loop
-loop-holds c = search needs
+loop-holds c = (search needs, search needs, gauge-start _ _ _ _ _ _, viewed-all _ _)
 
--- src/lib.rt:53:9
 sub-i : tie.Need-sub-i Inv-loop μ-loop
 sub-i c = search needs
 
--- src/lib.rt:54:13
 span-of-requires : tie.Need-span-of-requires Inv-loop μ-loop
-span-of-requires c κs = search needs
+span-of-requires c κs = (built-in (c .before .before .loop .inv .3) (c .before .before .before .before .before .pre .0), search needs, search needs, search needs, search needs, measured-in (c .before .before .loop .inv .3) _ _ (gauge-next (c .before .before .loop .inv .2) (c .before .loop-test .taken)))
 
--- src/lib.rt:55:38
 add-set-span : tie.Need-add-set-span Inv-loop μ-loop
 add-set-span c = search needs
 
--- src/lib.rt:55:9
 set-span-requires : tie.Need-set-span-requires Inv-loop μ-loop
 set-span-requires c κs = search needs
 
--- src/lib.rt:52:5
 loop-less : tie.Need-loop-less Inv-loop μ-loop
 loop-less c = search needs
 
--- src/lib.rt:52:5
 loop-again : tie.Need-loop-again Inv-loop μ-loop
-loop-again c = search needs
+loop-again c = 
+    (search needs, search needs, gauge-more _ _ (c .before .before .before .before .before .before .before .loop .inv .2) (c .before .before .before .before .before .before .loop-test .taken) (rw length-ends (search needs)) (rw length-widths (search needs)) (spanned-out (c .before .before .before .before .before .before .before .loop .inv .3) _ _ (c .before .before .before .before .span-of .ensures .0)) (c .before .before .set-span .ensures .ends) (c .before .before .set-span .ensures .widths), spans-on (c .before .before .before .before .before .before .before .loop .inv .3) (c .before .before .set-span .ensures))
 
--- src/lib.rt:47:1
 same-length : tie.Need-same-length Inv-loop μ-loop
 same-length c = search needs
 
--- src/lib.rt:47:1
 returns : tie.Need-returns Inv-loop μ-loop
-returns c = search needs
+returns c = (gauge-end (c .before .loop .inv .2) (search needs), c .before .loop .inv .3)
 
 pub measure-spec : {M : Type 1} → statement M
 measure-spec =

@@ -1,53 +1,41 @@
-use native.Mathlib.Omega.{arith}
+use Rattle.notes.specs.Views.{length-matches}
+use Rattle.matching.specs.Handing.{few-set}
+use Rattle.matching.specs.Matching.{seeks-void, seeks-full}
+use Rattle.matching.specs.Noted.{viewed-all, matches-on}
 use borrow.Author.Needs.{needs}
 use Rattle.matching.proofs.seek.Statement.{statement}
 use Rattle.matching.proofs.seek.Tie as tie
-use Rattle.matching.proofs.seek.Reads as reads
-use Rattle.matching.proofs.seek.Lts as lts
-use Rattle.matching.proofs.source.Reads as source-reads
-use Rattle.notes.proofs.set_match.Reads as set-match-reads
-use Rattle.notes.proofs.symbol_in.Reads as symbol-in-reads
-use Rattle.notes.proofs.width_of.Reads as width-of-reads
 
--- src/lib.rt:187:37
 add-width-of : tie.Need-add-width-of
 add-width-of c = search needs
 
--- src/lib.rt:187:8
 width-of-requires : tie.Need-width-of-requires
 width-of-requires c κs = search needs
 
--- src/lib.rt:188:9
 same-length : tie.Need-same-length
 same-length c = search needs
 
--- src/lib.rt:188:9
 returns : tie.Need-returns
-returns c = search needs
+returns c = (seeks-void _ (c .before .width-of .ensures .0) (search needs), search needs, viewed-all _ _)
 
--- src/lib.rt:190:43
 add-symbol-in : tie.Need-add-symbol-in
 add-symbol-in c = search needs
 
--- src/lib.rt:190:9
 symbol-in-requires : tie.Need-symbol-in-requires
 symbol-in-requires c κs = search needs
 
--- src/lib.rt:191:9
 source-requires : tie.Need-source-requires
 source-requires c κs = search needs
 
--- src/lib.rt:192:5
 set-match-requires : tie.Need-set-match-requires
 set-match-requires c κs = search needs
 
--- src/lib.rt:173:1
 same-length-2 : tie.Need-same-length-2
 same-length-2 c = search needs
 
--- src/lib.rt:173:1
 returns-2 : tie.Need-returns-2
-returns-2 c = search needs
+returns-2 c = 
+    (seeks-full _ _ _ (c .before .before .before .before .before .before .before .before .before .width-of .ensures .0) (search needs) (c .before .before .before .before .before .before .symbol-in .ensures .0) (c .before .before .before .before .source .ensures .0) (c .before .before .set-match .ensures .matches), few-set _ _ (c .before .before .before .before .before .before .before .before .before .before .before .before .pre .10) (rw length-matches (search needs)) (search needs) (c .before .before .set-match .ensures .matches), matches-on (viewed-all _ _) (c .before .before .set-match .ensures))
 
 pub seek-spec : {M : Type 1} → statement M
 seek-spec =

@@ -1,44 +1,34 @@
-use native.Mathlib.Omega.{arith}
+use Rattle.matching.specs.Finding.{source-new, source-beyond, starts-in, source-found}
+use Prim.Native.Nat.{_-_}
 use borrow.Author.Needs.{needs}
 use Rattle.matching.proofs.source.Statement.{statement}
 use Rattle.matching.proofs.source.Tie as tie
-use Rattle.matching.proofs.source.Reads as reads
-use Rattle.matching.proofs.source.Lts as lts
-use Rattle.matching.proofs.find.Reads as find-reads
-use Rattle.matching.proofs.was.Reads as was-reads
-use Rattle.notes.proofs.start_of.Reads as start-of-reads
 
--- src/lib.rt:127:9
 was-requires : tie.Need-was-requires
 was-requires c κs = search needs
 
--- src/lib.rt:129:9
 returns : tie.Need-returns
-returns c = search needs
+returns c = (source-new _ _ _ _ _ _ _ _ _ (c .before .was .ensures) (search needs), search needs)
 
--- src/lib.rt:132:9
 returns-2 : tie.Need-returns-2
-returns-2 c = search needs
+returns-2 c = (source-beyond _ _ _ _ _ _ _ _ _ (c .before .before .was .ensures) (search needs) (search needs), search needs)
 
--- src/lib.rt:134:43
 sub-start-of : tie.Need-sub-start-of
 sub-start-of c = search needs
 
--- src/lib.rt:134:9
 start-of-requires : tie.Need-start-of-requires
 start-of-requires c κs = search needs
 
--- src/lib.rt:135:9
 start-of-requires-2 : tie.Need-start-of-requires-2
 start-of-requires-2 c κs = search needs
 
--- src/lib.rt:136:5
 find-requires : tie.Need-find-requires
-find-requires c κs = search needs
+find-requires c κs = let x = starts-in (c .before .before .before .before .before .before .pre .4) (search needs) (c .start-of2 .ensures .0) in search needs
 
--- src/lib.rt:113:1
 returns-3 : tie.Need-returns-3
-returns-3 c = search needs
+returns-3 c = 
+    let x = starts-in (c .before .before .before .before .before .before .before .pre .4) (search needs) (c .before .start-of2 .ensures .0) in
+    (source-found _ _ _ _ _ _ _ _ _ (c .before .before .before .before .before .before .before .pre .4) (c .before .before .before .before .before .was .ensures) (search needs) (search needs) (c .before .before .start-of .ensures .0) (c .before .start-of2 .ensures .0) (c .find .ensures .0), search needs)
 
 pub source-spec : {M : Type 1} → statement M
 source-spec =
