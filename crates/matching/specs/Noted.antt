@@ -8,6 +8,7 @@ use Rattle.notes.specs.Views.{nodesIn, endsIn, widthsIn, startsIn, matchesIn, V
 use Rattle.matching.specs.Measure.{treeIn, Built, Measured, Spanned, Gauged}
 use Rattle.matching.specs.Finding.{Started}
 use Rattle.matching.specs.Handing.{Rising, Handed, HandedAll}
+use Rattle.matching.specs.Matching.{Turned}
 use Rattle.matching.specs.Through.{Matches}
 
 -- nothing was written
@@ -38,6 +39,9 @@ module _ {S : ℕ} {w ns es ws ss ms : List ℕ} (v : Viewed S w ns es ws ss ms)
   pub rising-in : {lo hi : ℕ} → Rising es lo hi → Rising (endsIn S w) lo hi
   rising-in h = rw (v .ends) h
 
+  pub handed-in : {c d base : ℕ} {ms₀ ms₁ : List ℕ} → Handed ws c d base ms₀ ms₁ → Handed (widthsIn S w) c d base ms₀ ms₁
+  handed-in h = rw (v .widths) h
+
   -- of the buffer, so of the lists
   pub production-out : (x p : ℕ) → p ≡ nodeAt (nodesIn S w) x .production → p ≡ nodeAt ns x .production
   production-out x p h = rw (v .nodes) at h
@@ -57,6 +61,10 @@ module _ {S : ℕ} {w ns es ws ss ms : List ℕ} (v : Viewed S w ns es ws ss ms)
 
   pub handed-all-out : {base i j : ℕ} {ms₀ ms₁ : List ℕ} → HandedAll (endsIn S w) (widthsIn S w) base i j ms₀ ms₁ → HandedAll es ws base i j ms₀ ms₁
   handed-all-out h = rw (v .ends, v .widths) at h
+
+  pub turned-out : {n T base place removed inserted i t : ℕ} {ms₀ ms₁ : List ℕ} → Turned (nodesIn S w) (endsIn S w) (widthsIn S w) n T base place removed inserted i t ms₀ ms₁
+      → Turned ns es ws n T base place removed inserted i t ms₀ ms₁
+  turned-out h = rw (v .nodes, v .ends, v .widths) at h
 
   pub matches-out : {n base k T place removed inserted : ℕ} {ms₁ : List ℕ} → Matches (nodesIn S w) n base k (endsIn S w) (widthsIn S w) T (startsIn S w) place removed inserted ms₁
       → Matches ns n base k es ws T ss place removed inserted ms₁
