@@ -56,6 +56,9 @@ module _ {S : ℕ} {w ns es ws ss ms : List ℕ} (v : Viewed S w ns es ws ss ms)
       → Gauged (treeIn rows ns n base) base i ends₀ widths₀ ends widths
   gauged-out rows n h = rw (v .nodes) at h
 
+  pub started-out : {n T : ℕ} {starts : List ℕ} → Started (nodesIn S w) n T starts → Started ns n T starts
+  started-out h = rw (v .nodes) at h
+
   pub handed-out : {c d base : ℕ} {ms₀ ms₁ : List ℕ} → Handed (widthsIn S w) c d base ms₀ ms₁ → Handed ws c d base ms₀ ms₁
   handed-out h = rw (v .widths) at h
 

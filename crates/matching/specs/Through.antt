@@ -7,6 +7,7 @@ use lib.ListN.{length, getD, set}
 use lib.Seq.{getD-set-same, getD-set-other}
 use native.Mathlib.Decide.{ℕ-discrete}
 use native.Mathlib.Omega.{arith}
+use Rattle.base.specs.Blocks.{zeros, byte-zeros}
 use Rattle.grammar.specs.Forest.{Forest, size}
 use Rattle.trees.specs.Nodes.{trees, back}
 use Rattle.trees.specs.Coded.{nodeAt}
@@ -21,6 +22,12 @@ use Rattle.matching.specs.Matching.{Matched, Status, Ready, Counted, Kee
 -- every entry is 0
 pub record Blank (ms : List ℕ) : Type 0 where
   pub each : (z : ℕ) → getD ms z 0 ≡ 0
+
+pub blank-zeros : (ms : List ℕ) (n : ℕ) → ms ≡ zeros n → Blank ms
+blank-zeros ms n e = record { each = λ z. ap (λ (u : List ℕ). getD u z 0) e ∙ byte-zeros n z }
+
+pub first-zero : (ms : List ℕ) (n : ℕ) → ms ≡ zeros n → getD ms 0 0 ≡ 0
+first-zero ms n e = blank-zeros ms n e .each 0
 
 pub blank-few : {n : ℕ} {ms : List ℕ} → Blank ms → Few n ms
 blank-few h = record { each = λ z. omega (arith, h .each z) }

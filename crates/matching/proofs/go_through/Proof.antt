@@ -10,7 +10,7 @@ use Rattle.matching.proofs.go_through.Statement.{statement}
 use Rattle.matching.proofs.go_through.Tie as tie
 
 abbrev Inv-loop : tie.InvT-loop
-Inv-loop work₀ n slots k tokens place removed inserted i₀ t₀ work i t = 
+Inv-loop work₀ n slots k tokens place removed inserted i₀ t₀ work i t =
     (i ≤ k) × (t ≤ i) × (length work ≡ length work₀) × Through (nodesIn slots work₀) n slots k (endsIn slots work₀) (widthsIn slots work₀) tokens (startsIn slots work₀) place removed inserted i t (matchesIn slots work) × Few n (matchesIn slots work)
     × Viewed slots work (nodesIn slots work₀) (endsIn slots work₀) (widthsIn slots work₀) (startsIn slots work₀) (matchesIn slots work)
 
@@ -27,7 +27,7 @@ add-y : tie.Need-add-y Inv-loop μ-loop
 add-y c = search needs
 
 turn-requires : tie.Need-turn-requires Inv-loop μ-loop
-turn-requires c κs = 
+turn-requires c κs =
     let v = matches-on (c .before .before .before .before .before .hand .ensures .1) (c .before .before .loop .inv .5) in
     (search needs, search needs, search needs, search needs, search needs, search needs, started-in v (c .before .before .before .before .before .before .before .before .pre .7), search needs, search needs, search needs, search needs, rising-in v (c .before .before .before .before .before .before .before .before .pre .11), rising-in v (c .before .before .before .before .before .before .before .before .pre .12), search needs)
 
@@ -41,7 +41,7 @@ loop-less : tie.Need-loop-less Inv-loop μ-loop
 loop-less c = search needs
 
 loop-again : tie.Need-loop-again Inv-loop μ-loop
-loop-again c = 
+loop-again c =
     let v = matches-on (c .before .before .before .before .before .before .before .before .loop .inv .5) (c .before .before .before .before .before .turn .ensures .2) in
     (search needs, search needs, search needs, through-inner (c .before .before .before .before .before .before .before .before .loop .inv .3) (search needs) (rw length-matches (search needs)) (turned-out (c .before .before .before .before .before .before .before .before .loop .inv .5) (c .before .before .before .before .before .turn .ensures .0)) _ (production-out v _ _ (c .before .production-in .ensures .0)) (search needs), search needs, v)
 
@@ -52,7 +52,7 @@ loop-less-2 : tie.Need-loop-less-2 Inv-loop μ-loop
 loop-less-2 c = search needs
 
 loop-again-2 : tie.Need-loop-again-2 Inv-loop μ-loop
-loop-again-2 c = 
+loop-again-2 c =
     let v = matches-on (c .before .before .before .before .before .before .before .before .loop .inv .5) (c .before .before .before .before .before .turn .ensures .2) in
     (search needs, search needs, search needs, through-leaf (c .before .before .before .before .before .before .before .before .loop .inv .3) (search needs) (rw length-matches (search needs)) (turned-out (c .before .before .before .before .before .before .before .before .loop .inv .5) (c .before .before .before .before .before .turn .ensures .0)) _ (production-out v _ _ (c .before .production-in .ensures .0)) (search needs), search needs, v)
 

@@ -9,7 +9,7 @@ use Rattle.matching.proofs.hand_on.Statement.{statement}
 use Rattle.matching.proofs.hand_on.Tie as tie
 
 abbrev Inv-loop : tie.InvT-loop
-Inv-loop work₀ n slots k i j last stop c₀ d₀ work c d = 
+Inv-loop work₀ n slots k i j last stop c₀ d₀ work c d =
     (last ≤ slots + k) × (stop ≤ n) × (i < c) × (j < d) × (length work ≡ length work₀) × HandingAt (endsIn slots work₀) (widthsIn slots work₀) slots i j (matchesIn slots work₀) c d (matchesIn slots work) × Few n (matchesIn slots work)
     × Viewed slots work (nodesIn slots work₀) (endsIn slots work₀) (widthsIn slots work₀) (startsIn slots work₀) (matchesIn slots work)
 
@@ -50,7 +50,7 @@ loop-less : tie.Need-loop-less Inv-loop μ-loop
 loop-less c = let x = rise-low (c .before .before .before .before .before .before .before .before .before .before .before .before .before .before .before .before .pre .5) (search needs) (search needs) (end-out (matches-on (c .before .before .before .before .before .before .before .before .before .before .loop .inv .7) (c .before .before .before .before .before .before .hand .ensures .1)) _ _ (c .before .before .end-of3 .ensures .0)) in search needs
 
 loop-again : tie.Need-loop-again Inv-loop μ-loop
-loop-again c = 
+loop-again c =
     let v = matches-on (c .before .before .before .before .before .before .before .before .before .before .loop .inv .7) (c .before .before .before .before .before .before .hand .ensures .1) in
     let x = end-out v _ _ (c .before .before .end-of3 .ensures .0) in
     let y = end-out v _ _ (c .end-of4 .ensures .0) in

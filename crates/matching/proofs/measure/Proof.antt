@@ -9,7 +9,7 @@ use Rattle.matching.proofs.measure.Statement.{statement}
 use Rattle.matching.proofs.measure.Tie as tie
 
 abbrev Inv-loop : tie.InvT-loop
-Inv-loop work₀ slots base n rows i₀ work i = 
+Inv-loop work₀ slots base n rows i₀ work i =
     (i ≤ n) × (length work ≡ length work₀) × Gauged (treeIn rows (nodesIn slots work₀) n base) base i (endsIn slots work₀) (widthsIn slots work₀) (endsIn slots work) (widthsIn slots work)
     × Viewed slots work (nodesIn slots work₀) (endsIn slots work) (widthsIn slots work) (startsIn slots work₀) (matchesIn slots work₀)
 
@@ -35,7 +35,7 @@ loop-less : tie.Need-loop-less Inv-loop μ-loop
 loop-less c = search needs
 
 loop-again : tie.Need-loop-again Inv-loop μ-loop
-loop-again c = 
+loop-again c =
     (search needs, search needs, gauge-more _ _ (c .before .before .before .before .before .before .before .loop .inv .2) (c .before .before .before .before .before .before .loop-test .taken) (rw length-ends (search needs)) (rw length-widths (search needs)) (spanned-out (c .before .before .before .before .before .before .before .loop .inv .3) _ _ (c .before .before .before .before .span-of .ensures .0)) (c .before .before .set-span .ensures .ends) (c .before .before .set-span .ensures .widths), spans-on (c .before .before .before .before .before .before .before .loop .inv .3) (c .before .before .set-span .ensures))
 
 same-length : tie.Need-same-length Inv-loop μ-loop

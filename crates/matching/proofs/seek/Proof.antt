@@ -34,7 +34,7 @@ same-length-2 : tie.Need-same-length-2
 same-length-2 c = search needs
 
 returns-2 : tie.Need-returns-2
-returns-2 c = 
+returns-2 c =
     (seeks-full _ _ _ (c .before .before .before .before .before .before .before .before .before .width-of .ensures .0) (search needs) (c .before .before .before .before .before .before .symbol-in .ensures .0) (c .before .before .before .before .source .ensures .0) (c .before .before .set-match .ensures .matches), few-set _ _ (c .before .before .before .before .before .before .before .before .before .before .before .before .pre .10) (rw length-matches (search needs)) (search needs) (c .before .before .set-match .ensures .matches), matches-on (viewed-all _ _) (c .before .before .set-match .ensures))
 
 pub seek-spec : {M : Type 1} → statement M

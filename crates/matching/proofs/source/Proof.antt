@@ -26,7 +26,7 @@ find-requires : tie.Need-find-requires
 find-requires c κs = let x = starts-in (c .before .before .before .before .before .before .pre .4) (search needs) (c .start-of2 .ensures .0) in search needs
 
 returns-3 : tie.Need-returns-3
-returns-3 c = 
+returns-3 c =
     let x = starts-in (c .before .before .before .before .before .before .before .pre .4) (search needs) (c .before .start-of2 .ensures .0) in
     (source-found _ _ _ _ _ _ _ _ _ (c .before .before .before .before .before .before .before .pre .4) (c .before .before .before .before .before .was .ensures) (search needs) (search needs) (c .before .before .start-of .ensures .0) (c .before .start-of2 .ensures .0) (c .find .ensures .0), search needs)
 
