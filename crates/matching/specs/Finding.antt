@@ -20,6 +20,10 @@ abbrev pub leafOf : ℕ → ℕ
 leafOf zero = 1
 leafOf (suc p) = 0
 
+pub no-leaf : (p : ℕ) → (p ≡ 0 → ⊥) → leafOf p ≡ 0
+no-leaf zero n = absurd (n refl)
+no-leaf (suc p) n = refl
+
 -- how many of the first i nodes are leaves
 abbrev pub leavesTo : List ℕ → ℕ → ℕ
 leavesTo w zero = 0
@@ -91,25 +95,21 @@ started-none w starts e =
 pub started-inner : (w starts : List ℕ) (i t p : ℕ) → p ≡ nodeAt w i .production → (p ≡ 0 → ⊥) → Started w i t starts → Started w (i + 1) t starts
 started-inner w starts i t p e z h =
     record {
-      count = h .count ∙ sym (leaves-next w i ∙ ap (λ (u : ℕ). leavesTo w i + u) (inner (nodeAt w i .production) (λ x. z (e ∙ x))) ∙ right (leavesTo w i));
+      count = h .count ∙ sym (leaves-next w i ∙ ap (λ (u : ℕ). leavesTo w i + u) (no-leaf (nodeAt w i .production) (λ x. z (e ∙ x))) ∙ right (leavesTo w i));
       zero-is = h .zero-is;
       here = h .here;
       few = λ u l. omega (arith, h .few u l);
       step = h .step;
     }
   where
-    inner : (p : ℕ) → (p ≡ 0 → ⊥) → leafOf p ≡ 0
-    inner zero n = absurd (n refl)
-    inner (suc p) n = refl
-
     right : (u : ℕ) → u + 0 ≡ u
     right u = omega arith
 
-pub started-leaf : (w starts : List ℕ) (i t p : ℕ) → p ≡ nodeAt w i .production → p ≡ 0 → t + 1 < length starts → Started w i t starts → Started w (i + 1) (t + 1) (set starts (t + 1) (i + 1))
-started-leaf w starts i t p e z l h =
+pub started-leaf : (w starts starts' : List ℕ) (i t p : ℕ) → p ≡ nodeAt w i .production → p ≡ 0 → t + 1 < length starts → starts' ≡ set starts (t + 1) (i + 1) → Started w i t starts → Started w (i + 1) (t + 1) starts'
+started-leaf w starts starts' i t p e z l f h =
     let k : leavesTo w (i + 1) ≡ t + 1 = leaves-next w i ∙ ap (λ (u : ℕ). leavesTo w i + leafOf u) (sym e ∙ z) ∙ ap (λ (u : ℕ). u + 1) (sym (h .count)) in
     let same = getD-set-same starts (t + 1) (i + 1) 0 l in
-    record {
+    rw f (record {
       count = sym k;
       zero-is = getD-set-other starts (t + 1) 0 (i + 1) 0 (λ x. omega arith) ∙ h .zero-is;
       here = λ u o. by-cases (ℕ-discrete u (t + 1)) (λ x. rw (x, same) k) (λ x. rw (getD-set-other starts (t + 1) u (i + 1) 0 x) (h .here u (omega arith)));
@@ -117,7 +117,7 @@ started-leaf w starts i t p e z l h =
       step = λ u o v y. by-cases (ℕ-discrete u t)
           (λ x. let q : getD (set starts (t + 1) (i + 1)) (u + 1) 0 ≡ i + 1 = rw x same in let r : v ≡ i = omega (arith, q, y) in rw (r, x) (sym (h .count)))
           (λ x. h .step u (omega arith) v (sym (getD-set-other starts (t + 1) (u + 1) (i + 1) 0 (λ d. x (omega arith))) ∙ y));
-    }
+    })
 
 pub started-end : {w starts : List ℕ} {i t n : ℕ} → Started w i t starts → i ≤ n → n ≤ i → Started w n t starts
 started-end {i = i} {n = n} h l k = let e : i ≡ n = omega arith in rw e at h

@@ -28,11 +28,11 @@ rise-high {y = y} h l k e = omega (arith, h .high y l k, e)
 pub record Few (n : ℕ) (ms : List ℕ) : Type 0 where
   pub each : (z : ℕ) → getD ms z 0 ≤ n
 
-pub few-set : {n : ℕ} {ms : List ℕ} (i v : ℕ) → Few n ms → i < length ms → v ≤ n → Few n (set ms i v)
-few-set {n} {ms} i v h l k =
-    record {
+pub few-set : {n : ℕ} {ms ms' : List ℕ} (i v : ℕ) → Few n ms → i < length ms → v ≤ n → ms' ≡ set ms i v → Few n ms'
+few-set {n} {ms} i v h l k f =
+    rw f (record {
       each = λ z. by-cases (ℕ-discrete z i) (λ e. rw (e, getD-set-same ms i v 0 l) k) (λ e. rw (getD-set-other ms i z v 0 e) (h .each z));
-    }
+    })
 
 pub few-one : {n v : ℕ} {ms : List ℕ} (i : ℕ) → Few n ms → v ≡ getD ms i 0 → (v ≡ 0 → ⊥) → v - 1 < n
 few-one {v = v} i h e z = by-cases (ℕ-discrete v 0) (λ o. absurd (z o)) (λ o. omega (arith, h .each i, e))
@@ -51,11 +51,11 @@ module _ (widths : List ℕ) (c d base : ℕ) (ms : List ℕ) where
   pub handed-old : (v : ℕ) → v ≡ getD widths d 0 → (v ≡ 0 → ⊥) → Handed widths c d base ms ms
   handed-old v e n = Handed.left (λ x y. n (e ∙ y))
 
-  pub handed-both : (u v : ℕ) → u ≡ getD widths c 0 → u ≡ 0 → v ≡ getD widths d 0 → v ≡ 0 → Handed widths c d base ms (set ms (c - base) (d + 1))
-  handed-both u v e x f y = Handed.given (sym e ∙ x) (sym f ∙ y)
+  pub handed-both : (ms' : List ℕ) (u v : ℕ) → u ≡ getD widths c 0 → u ≡ 0 → v ≡ getD widths d 0 → v ≡ 0 → ms' ≡ set ms (c - base) (d + 1) → Handed widths c d base ms ms'
+  handed-both ms' u v e x f y z = rw z (Handed.given (sym e ∙ x) (sym f ∙ y))
 
 pub few-handed : {widths : List ℕ} {c d base n : ℕ} {ms ms' : List ℕ} → Few n ms → c - base < length ms → d < n → Handed widths c d base ms ms' → Few n ms'
-few-handed {c = c} {d = d} {base = base} h l k (Handed.given a b) = few-set (c - base) (d + 1) h l (omega arith)
+few-handed {c = c} {d = d} {base = base} h l k (Handed.given a b) = few-set (c - base) (d + 1) h l (omega arith) refl
 few-handed h l k (Handed.left a) = h
 
 -- ---- all children

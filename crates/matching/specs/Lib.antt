@@ -5,3 +5,4 @@ pub mod Handing
 pub mod Kids
 pub mod Matching
 pub mod Through
+pub mod Noted

@@ -47,9 +47,9 @@ module _ {w widths : List ℕ} {n T base place removed inserted i t : ℕ} {ms :
   pub seeks-void : (v : ℕ) → v ≡ getD widths (base + i) 0 → v ≡ 0 → Seeks w widths n T base place removed inserted i t ms ms
   seeks-void v e z = Seeks.void (sym e ∙ z)
 
-  pub seeks-full : (u x v : ℕ) → u ≡ getD widths (base + i) 0 → (u ≡ 0 → ⊥) → x ≡ nodeAt w (base + i) .symbol → Sourced w widths n T place removed inserted t x v
-      → Seeks w widths n T base place removed inserted i t ms (set ms i v)
-  seeks-full u x v e z f h = Seeks.full (λ o. z (e ∙ o)) (rw f at h)
+  pub seeks-full : {ms' : List ℕ} (u x v : ℕ) → u ≡ getD widths (base + i) 0 → (u ≡ 0 → ⊥) → x ≡ nodeAt w (base + i) .symbol → Sourced w widths n T place removed inserted t x v → ms' ≡ set ms i v
+      → Seeks w widths n T base place removed inserted i t ms ms'
+  seeks-full u x v e z f h k = rw k (Seeks.full (λ o. z (e ∙ o)) (rw f at h))
 
   pub turned-zero : {ends mid : List ℕ} (v : ℕ) → Seeks w widths n T base place removed inserted i t ms mid → v ≡ getD mid i 0 → v ≡ 0 → Turned w ends widths n T base place removed inserted i t ms mid
   turned-zero v h e z = Turned.alone h (sym e ∙ z)

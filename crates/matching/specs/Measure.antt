@@ -355,16 +355,16 @@ gauge-start rows w n base ends widths =
 pub gauge-next : {F : Forest} {base j : ℕ} {ends₀ widths₀ ends widths : List ℕ} → Gauged F base j ends₀ widths₀ ends widths → 0 < j → Measured F base (j - 1 + 1) ends widths
 gauge-next {j = j} h l = let e : j ≡ j - 1 + 1 = omega arith in rw (← e) (h .measured)
 
-pub gauge-more : {F : Forest} {base j : ℕ} {ends₀ widths₀ ends widths : List ℕ} (end width : ℕ) → Gauged F base j ends₀ widths₀ ends widths → 0 < j → base + (j - 1) < length ends
-    → base + (j - 1) < length widths → Spanned F base (j - 1) end width → Gauged F base (j - 1) ends₀ widths₀ (set ends (base + (j - 1)) end) (set widths (base + (j - 1)) width)
-gauge-more {F} {base} {j} {ends₀} {widths₀} {ends} {widths} end width h o l k s =
-    record {
+pub gauge-more : {F : Forest} {base j : ℕ} {ends₀ widths₀ ends widths ends' widths' : List ℕ} (end width : ℕ) → Gauged F base j ends₀ widths₀ ends widths → 0 < j → base + (j - 1) < length ends
+    → base + (j - 1) < length widths → Spanned F base (j - 1) end width → ends' ≡ set ends (base + (j - 1)) end → widths' ≡ set widths (base + (j - 1)) width → Gauged F base (j - 1) ends₀ widths₀ ends' widths'
+gauge-more {F} {base} {j} {ends₀} {widths₀} {ends} {widths} end width h o l k s f g =
+    rw (f, g) (record {
       measured = measured-more F base (j - 1) ends widths end width l k s (gauge-next h o);
       long-ends = length-set ends (base + (j - 1)) end ∙ h .long-ends;
       long-widths = length-set widths (base + (j - 1)) width ∙ h .long-widths;
       kept-ends = λ x v. getD-set-other ends (base + (j - 1)) x end 0 (λ e. omega arith) ∙ h .kept-ends x v;
       kept-widths = λ x v. getD-set-other widths (base + (j - 1)) x width 0 (λ e. omega arith) ∙ h .kept-widths x v;
-    }
+    })
 
 pub gauge-end : {F : Forest} {base j : ℕ} {ends₀ widths₀ ends widths : List ℕ} → Gauged F base j ends₀ widths₀ ends widths → j ≤ 0 → Gauged F base 0 ends₀ widths₀ ends widths
 gauge-end {j = j} h l = let e : j ≡ 0 = omega arith in rw e at h

@@ -7,13 +7,14 @@ use lib.ListN.{length, getD, set}
 use lib.Seq.{getD-set-same, getD-set-other}
 use native.Mathlib.Decide.{ℕ-discrete}
 use native.Mathlib.Omega.{arith}
+use Rattle.base.specs.Blocks.{zeros, byte-zeros}
 use Rattle.grammar.specs.Forest.{Forest, size}
 use Rattle.trees.specs.Nodes.{trees, back}
 use Rattle.trees.specs.Coded.{nodeAt}
 use Rattle.edits.specs.Keeping.{Edit, own, At, Node, Keeps}
 use Rattle.edits.specs.Places.{at-number, at-some, at-below-parent, at-one, at-child, Side, Parent, at-up, Numbered, at-node}
 use Rattle.matching.specs.Measure.{treeIn, Built, built-size, Measured, measured-end, Gauged, measured-kept}
-use Rattle.matching.specs.Finding.{leafOf, leavesTo, leaves-next, Started, Numbers}
+use Rattle.matching.specs.Finding.{leafOf, no-leaf, leavesTo, leaves-next, Started, Numbers}
 use Rattle.matching.specs.Handing.{Rising, Few, Handed}
 use Rattle.matching.specs.Kids.{back-some}
 use Rattle.matching.specs.Matching.{Matched, Status, Ready, Counted, KeepsOne, Turned, void-below, status-turn}
@@ -21,6 +22,12 @@ use Rattle.matching.specs.Matching.{Matched, Status, Ready, Counted, Kee
 -- every entry is 0
 pub record Blank (ms : List ℕ) : Type 0 where
   pub each : (z : ℕ) → getD ms z 0 ≡ 0
+
+pub blank-zeros : (ms : List ℕ) (n : ℕ) → ms ≡ zeros n → Blank ms
+blank-zeros ms n e = record { each = λ z. ap (λ (u : List ℕ). getD u z 0) e ∙ byte-zeros n z }
+
+pub first-zero : (ms : List ℕ) (n : ℕ) → ms ≡ zeros n → getD ms 0 0 ≡ 0
+first-zero ms n e = blank-zeros ms n e .each 0
 
 pub blank-few : {n : ℕ} {ms : List ℕ} → Blank ms → Few n ms
 blank-few h = record { each = λ z. omega (arith, h .each z) }
@@ -141,11 +148,7 @@ module _ {w : List ℕ} {n base k : ℕ} {ends widths : List ℕ} {T : ℕ} {sta
   pub through-inner : (p ≡ 0 → ⊥) → Through w n base k ends widths T starts place removed inserted (i + 1) t ms'
   through-inner nay =
       let z : t + 0 ≡ t = omega arith in
-      record { counted = record { is = rw z at (leaves 0 (sym (inner p nay))) }; status = next }
-    where
-      inner : (p : ℕ) → (p ≡ 0 → ⊥) → leafOf p ≡ 0
-      inner zero n = absurd (n refl)
-      inner (suc p) n = refl
+      record { counted = record { is = rw z at (leaves 0 (sym (no-leaf p nay))) }; status = next }
 
   pub through-leaf : p ≡ 0 → Through w n base k ends widths T starts place removed inserted (i + 1) (t + 1) ms'
   through-leaf z = record { counted = record { is = leaves 1 (rw z) }; status = next }
