@@ -2,7 +2,7 @@
 use Prim.Native.Nat.{ℕ, _+_, _-_, _*_, _≤_}
 use mathlib.Core.Path.{_≡_, sym, ap, _∙_}
 use mathlib.Core.List.{List}
-use lib.ListN.{length, getD, take, drop}
+use lib.ListN.{length, take, drop}
 use native.Mathlib.Omega.{arith}
 use Rattle.base.specs.Blocks.{part-tail}
 use Rattle.grammar.specs.Grammar.{Grammar}
@@ -84,6 +84,9 @@ module _ (rows : List ℕ) (t n start count S place removed inserted : ℕ) (tre
     pub slots-old : Old S k ms
     slots-old = both-old-nodes rows t n start count S (h .edit) tree w o k (h .both) (h .numbers) m few
 
+    pub settled-few : (r : ℕ) → Counts w ms k r → r ≤ o
+    settled-few r c = both-few rows t n start count S (h .edit) tree w o k (h .both) (h .numbers) m few r c
+
     -- of a list that is the same
     module _ {u : List ℕ} (q : u ≡ w) where
       pub fit-then : Fit S u ms k
@@ -112,6 +115,3 @@ module _ (rows : List ℕ) (t n start count S place removed inserted : ℕ) (tre
       settled-all {tree'} r c a =
           let b : Area S (build (arityIn rows) (nodesFrom (nodesIn S v) k S)) tree' = rw part-is at a in
           record { all = λ e s d. both-alters rows t n start count S e tree w o k d s m few g r c b }
-
-      pub settled-few : (r : ℕ) → Counts w ms k r → r ≤ o
-      settled-few r c = both-few rows t n start count S (h .edit) tree w o k (h .both) (h .numbers) m few r c

@@ -1,52 +1,44 @@
-use native.Mathlib.Omega.{arith}
+use Rattle.altering.specs.Altering.{small, lists-old, lists-new, one-root, slots-old, fit-then, counts-then, gives-then, laid-spread, laid-fed, settled-all, settled-few}
+use mathlib.Core.Path.{refl}
 use borrow.Author.Needs.{needs}
 use Rattle.altering.proofs.settle.Statement.{statement}
 use Rattle.altering.proofs.settle.Tie as tie
-use Rattle.altering.proofs.settle.Reads as reads
-use Rattle.altering.proofs.settle.Lts as lts
-use Rattle.keeping.proofs.give_slots.Reads as give-slots-reads
-use Rattle.trees.proofs.lay_out.Reads as lay-out-reads
 
--- src/lib.rt:45:9
+match-nodes-requires : tie.Need-match-nodes-requires
+match-nodes-requires c κs = let x = small _ _ _ _ _ _ _ _ _ _ _ _ _ (c .before .before .before .before .pre .0) in (lists-old _ _ _ _ _ _ _ _ _ _ _ _ _ (c .before .before .before .before .pre .0), lists-new _ _ _ _ _ _ _ _ _ _ _ _ _ (c .before .before .before .before .pre .0), one-root _ _ _ _ _ _ _ _ _ _ _ _ _ (c .before .before .before .before .pre .0), search needs, search needs, search needs, search needs, search needs, search needs, search needs, search needs, search needs)
+
 give-slots-requires : tie.Need-give-slots-requires
-give-slots-requires c κs = search needs
+give-slots-requires c κs = let x = small _ _ _ _ _ _ _ _ _ _ _ _ _ (c .before .before .before .before .before .before .before .before .pre .0) in (search needs, search needs, search needs, slots-old _ _ _ _ _ _ _ _ _ _ _ _ _ (c .before .before .before .before .before .before .before .before .pre .0) (c .before .before .before .match-nodes .ensures .0) (c .before .before .before .match-nodes .ensures .1), fit-then _ _ _ _ _ _ _ _ _ _ _ _ _ (c .before .before .before .before .before .before .before .before .pre .0) (c .before .before .before .match-nodes .ensures .0) (c .before .before .before .match-nodes .ensures .1) (c .before .before .before .match-nodes .ensures .2))
 
--- src/lib.rt:46:26
 mul-lay-out : tie.Need-mul-lay-out
 mul-lay-out c = search needs
 
--- src/lib.rt:46:20
 sub-lay-out : tie.Need-sub-lay-out
 sub-lay-out c = search needs
 
--- src/lib.rt:46:20
 part-lay-out-start : tie.Need-part-lay-out-start
 part-lay-out-start c = search needs
 
--- src/lib.rt:46:20
 part-lay-out-end : tie.Need-part-lay-out-end
 part-lay-out-end c = search needs
 
--- src/lib.rt:46:5
 lay-out-requires : tie.Need-lay-out-requires
-lay-out-requires c κs = search needs
+lay-out-requires c κs = let x = small _ _ _ _ _ _ _ _ _ _ _ _ _ (c .before .before .before .before .before .before .before .before .before .before .before .before .before .before .pre .0) in let g = (gives-then _ _ _ _ _ _ _ _ _ _ _ _ _ (c .before .before .before .before .before .before .before .before .before .before .before .before .before .before .pre .0) (c .before .before .before .before .before .before .before .before .before .match-nodes .ensures .0) (c .before .before .before .before .before .before .before .before .before .match-nodes .ensures .1) (c .before .before .before .before .before .before .before .before .before .match-nodes .ensures .2) (c .before .before .before .before .before .give-slots .ensures .0)) in (search needs, search needs, search needs, search needs, laid-spread _ _ _ _ _ _ _ _ _ _ _ _ _ (c .before .before .before .before .before .before .before .before .before .before .before .before .before .before .pre .0) (c .before .before .before .before .before .before .before .before .before .match-nodes .ensures .0) (c .before .before .before .before .before .before .before .before .before .match-nodes .ensures .1) _ g refl, laid-fed _ _ _ _ _ _ _ _ _ _ _ _ _ (c .before .before .before .before .before .before .before .before .before .before .before .before .before .before .pre .0) (c .before .before .before .before .before .before .before .before .before .match-nodes .ensures .0) (c .before .before .before .before .before .before .before .before .before .match-nodes .ensures .1) _ g refl)
 
--- src/lib.rt:27:1
 same-length : tie.Need-same-length
 same-length c = search needs
 
--- src/lib.rt:27:1
 same-length-2 : tie.Need-same-length-2
 same-length-2 c = search needs
 
--- src/lib.rt:27:1
 returns : tie.Need-returns
-returns c = search needs
+returns c = let g = (gives-then _ _ _ _ _ _ _ _ _ _ _ _ _ (c .before .before .before .before .before .before .before .before .before .before .before .before .before .before .before .before .before .pre .0) (c .before .before .before .before .before .before .before .before .before .before .before .before .match-nodes .ensures .0) (c .before .before .before .before .before .before .before .before .before .before .before .before .match-nodes .ensures .1) (c .before .before .before .before .before .before .before .before .before .before .before .before .match-nodes .ensures .2) (c .before .before .before .before .before .before .before .before .give-slots .ensures .0)) in let n = (counts-then _ _ _ _ _ _ _ _ _ _ _ _ _ (c .before .before .before .before .before .before .before .before .before .before .before .before .before .before .before .before .before .pre .0) (c .before .before .before .before .before .before .before .before .before .before .before .before .match-nodes .ensures .0) (c .before .before .before .before .before .before .before .before .before .before .before .before .match-nodes .ensures .1) (c .before .before .before .before .before .before .before .before .before .before .before .before .match-nodes .ensures .2) (c .before .before .before .before .before .before .before .before .give-slots .ensures .1)) in (settled-all _ _ _ _ _ _ _ _ _ _ _ _ _ (c .before .before .before .before .before .before .before .before .before .before .before .before .before .before .before .before .before .pre .0) (c .before .before .before .before .before .before .before .before .before .before .before .before .match-nodes .ensures .0) (c .before .before .before .before .before .before .before .before .before .before .before .before .match-nodes .ensures .1) _ g refl _ n (c .before .before .lay-out .ensures), n .few, settled-few _ _ _ _ _ _ _ _ _ _ _ _ _ (c .before .before .before .before .before .before .before .before .before .before .before .before .before .before .before .before .before .pre .0) (c .before .before .before .before .before .before .before .before .before .before .before .before .match-nodes .ensures .0) (c .before .before .before .before .before .before .before .before .before .before .before .before .match-nodes .ensures .1) _ n)
 
 pub settle-spec : {M : Type 1} → statement M
 settle-spec =
     tie.close
     (tie.spec
+    match-nodes-requires
     give-slots-requires
     mul-lay-out
     sub-lay-out
