@@ -103,9 +103,9 @@ module _ {ends widths : List ℕ} {base i j : ℕ} {ms₀ : List ℕ} {c d : ℕ
   pub handing-old : (stop : ℕ) → stop ≡ getD ends j 0 → stop ≤ d → HandedAll ends widths base i j ms₀ ms
   handing-old stop e l = record { count = h .m; handing = h .handing; ended = inr (omega (arith, h .d-is)) }
 
-  pub handing-next : {ms' : List ℕ} (last stop c' d' : ℕ) → last ≡ getD ends i 0 → stop ≡ getD ends j 0 → c < last → d < stop → base ≤ i → c - base < length ms → c < c' → d < d' → Handed widths c d base ms ms'
-      → c' ≡ getD ends c 0 → d' ≡ getD ends d 0 → HandingAt ends widths base i j ms₀ c' d' ms'
-  handing-next {ms'} last stop c' d' e f l k o r s t g u v =
+  pub handing-next : {ms' : List ℕ} (last stop c' d' : ℕ) → last ≡ getD ends i 0 → stop ≡ getD ends j 0 → c < last → d < stop → base ≤ i → c - base < length ms → c' ≡ getD ends c 0 → d' ≡ getD ends d 0 → c < c' → d < d'
+      → Handed widths c d base ms ms' → HandingAt ends widths base i j ms₀ c' d' ms'
+  handing-next {ms'} last stop c' d' e f l k o r u v s t g =
       record {
         m = suc (h .m);
         c-is = u ∙ ap (λ (y : ℕ). getD ends y 0) (h .c-is);

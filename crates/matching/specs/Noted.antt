@@ -1,5 +1,5 @@
 -- What is known of the notes in a buffer is known of the lists that they are, and the other way round.
-use Prim.Native.Nat.{ℕ, _+_}
+use Prim.Native.Nat.{ℕ}
 use mathlib.Core.Path.{_≡_, refl, _∙_}
 use mathlib.Core.List.{List}
 use lib.ListN.{getD}

@@ -1,6 +1,5 @@
 use Rattle.matching.specs.Handing.{handed-new, handed-old, handed-both}
 use Rattle.matching.specs.Noted.{viewed-all, matches-on}
-use Prim.Native.Nat.{_-_}
 use borrow.Author.Needs.{needs}
 use Rattle.matching.proofs.hand.Statement.{statement}
 use Rattle.matching.proofs.hand.Tie as tie

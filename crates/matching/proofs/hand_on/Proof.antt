@@ -1,6 +1,6 @@
 use Rattle.notes.specs.Views.{nodesIn, endsIn, widthsIn, startsIn, matchesIn, Viewed, length-matches}
 use Rattle.matching.specs.Handing.{Few, few-handed, rise-low, rise-high, HandingAt, handing-start, handing-new, handing-old, handing-next}
-use Rattle.matching.specs.Noted.{viewed-all, matches-on, rising-in, handed-out, end-out}
+use Rattle.matching.specs.Noted.{viewed-all, matches-on, handed-out, end-out}
 use Prim.Native.Nat.{_+_, _-_, _<_, _≤_}
 use mathlib.Core.Path.{_≡_}
 use lib.ListN.{length}
@@ -57,7 +57,7 @@ loop-again c =
     let p = rise-low (c .before .before .before .before .before .before .before .before .before .before .before .before .before .before .before .before .pre .5) (search needs) (search needs) x in
     let q = rise-low (c .before .before .before .before .before .before .before .before .before .before .before .before .before .before .before .before .pre .4) (search needs) (search needs) y in
     let h = handed-out (c .before .before .before .before .before .before .before .before .before .before .loop .inv .7) (c .before .before .before .before .before .before .hand .ensures .0) in
-    (search needs, search needs, search needs, search needs, search needs, handing-next (c .before .before .before .before .before .before .before .before .before .before .loop .inv .5) _ _ _ _ (c .before .before .before .before .before .before .before .before .before .before .before .before .before .end-of .ensures .0) (c .before .before .before .before .before .before .before .before .before .before .before .end-of2 .ensures .0) (search needs) (search needs) (search needs) (rw length-matches (search needs)) p q h x y, few-handed (c .before .before .before .before .before .before .before .before .before .before .loop .inv .6) (rw length-matches (search needs)) (search needs) h, v)
+    (search needs, search needs, search needs, search needs, search needs, handing-next (c .before .before .before .before .before .before .before .before .before .before .loop .inv .5) _ _ _ _ (c .before .before .before .before .before .before .before .before .before .before .before .before .before .end-of .ensures .0) (c .before .before .before .before .before .before .before .before .before .before .before .end-of2 .ensures .0) (search needs) (search needs) (search needs) (rw length-matches (search needs)) x y p q h, few-handed (c .before .before .before .before .before .before .before .before .before .before .loop .inv .6) (rw length-matches (search needs)) (search needs) h, v)
 
 same-length-2 : tie.Need-same-length-2 Inv-loop μ-loop
 same-length-2 c = search needs

@@ -1,5 +1,4 @@
 use Rattle.matching.specs.Finding.{source-new, source-beyond, starts-in, source-found}
-use Prim.Native.Nat.{_-_}
 use borrow.Author.Needs.{needs}
 use Rattle.matching.proofs.source.Statement.{statement}
 use Rattle.matching.proofs.source.Tie as tie

@@ -1,5 +1,4 @@
 use Rattle.matching.specs.Finding.{was-before, was-new, was-after}
-use Prim.Native.Nat.{_-_}
 use borrow.Author.Needs.{needs}
 use Rattle.matching.proofs.was.Statement.{statement}
 use Rattle.matching.proofs.was.Tie as tie
