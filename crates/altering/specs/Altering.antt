@@ -26,10 +26,6 @@ use Rattle.altering.specs.Settling.{Both, both-old, both-new, both-one, 
 use Rattle.altering.specs.Parts.{nodes-drop}
 use Rattle.notes.specs.Views.{nodesIn, nodes-in}
 
--- where an area's header has the number of tokens
-abbrev pub tokensPlace : ℕ
-tokensPlace = 6
-
 -- both trees stand in the buffers, for an edit of these numbers
 pub record Doubled (G : Grammar) (S place removed inserted : ℕ) (tree w : List ℕ) (o k : ℕ) : Type 0 where
   pub edit : Edit

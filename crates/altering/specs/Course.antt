@@ -12,7 +12,7 @@ use Rattle.grammar.specs.Prediction.{Prepared}
 use Rattle.grammar.specs.Forest.{yield}
 use Rattle.grammar.specs.Rows.{grammarIn}
 use Rattle.tables.specs.Tables.{Tables}
-use Rattle.trees.specs.Area.{maxSlots}
+use Rattle.trees.specs.Area.{tokensPlace, maxSlots}
 use Rattle.trees.specs.Nodes.{leavesOf}
 use Rattle.trees.specs.Coded.{nodeSize, nodesFrom}
 use Rattle.trees.specs.Listing.{nodes-kept}
@@ -34,7 +34,7 @@ use Rattle.altering.specs.Outcome.{Alters, AltersTree, Few}
 use Rattle.altering.specs.Treed.{Treed, leaves, treed-fits}
 use Rattle.altering.specs.Settling.{Both}
 use Rattle.altering.specs.Parts.{nodes-drop}
-use Rattle.altering.specs.Altering.{tokensPlace, Doubled, SettledAll}
+use Rattle.altering.specs.Altering.{Doubled, SettledAll}
 
 -- ---- a buffer whose part from a on was lent
 

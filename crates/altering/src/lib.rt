@@ -4,7 +4,7 @@ ghost use mathlib.Core.Path.{_≡_};
 ghost use Prim.Native.Nat.{_+_, _*_, _≤_};
 ghost use lib.ListN.{length};
 ghost use Rattle.grammar.specs.Rows.{grammarIn};
-ghost use Rattle.trees.specs.Area.{maxSlots, areaSize};
+ghost use Rattle.trees.specs.Area.{maxSlots, areaSize, tokensPlace};
 ghost use Rattle.base.specs.Bytes.{get16};
 ghost use Rattle.grammar.specs.Prediction.{Prepared};
 ghost use Rattle.tables.specs.Tables.{Tables};
@@ -13,7 +13,7 @@ ghost use Rattle.plain.specs.Tokens.{tokenSize, Sentence, tokensFrom};
 ghost use Rattle.sentences.specs.Forming.{editOf};
 ghost use Rattle.altering.specs.Treed.{workAreas, Treed};
 ghost use Rattle.altering.specs.Outcome.{AltersTree, Few};
-ghost use Rattle.altering.specs.Altering.{tokensPlace, Doubled, SettledAll};
+ghost use Rattle.altering.specs.Altering.{Doubled, SettledAll};
 
 // The new tree has so many nodes, of which so many kept their slots; or the plain parse refuses the new sentence.
 pub enum Alteration {

@@ -12,7 +12,7 @@ use Rattle.grammar.specs.Grammar.{Grammar}
 use Rattle.grammar.specs.Forest.{size, yield}
 use Rattle.grammar.specs.Rows.{grammarIn}
 use Rattle.tables.specs.Tables.{Tables}
-use Rattle.trees.specs.Area.{maxSlots, areaSize, Valid}
+use Rattle.trees.specs.Area.{tokensPlace, maxSlots, areaSize, Valid}
 use Rattle.walks.specs.Reading.{valid-header}
 use Rattle.walks.specs.Closing.{Reads}
 use Rattle.walks.specs.declared.Walked.{Walked}
@@ -23,7 +23,6 @@ use Rattle.edits.specs.Keeping.{Altered}
 use Rattle.sentences.specs.Forming.{editOf}
 use Rattle.altering.specs.Outcome.{Alters, AltersTree, Few}
 use Rattle.altering.specs.Treed.{workAreas, treed, untreed}
-use Rattle.altering.specs.Altering.{tokensPlace}
 use Rattle.altering.specs.declared.Alteration.{Alteration}
 use Rattle.replies.specs.declared.Reply.{Reply}
 use Rattle.replies.specs.declared.Reason.the-variants as reasons

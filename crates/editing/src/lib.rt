@@ -20,9 +20,6 @@ ghost use Rattle.editing.specs.Edits.{editCounts, Edits};
 
 pub const WORK_AREAS: usize = 3;
 
-// Where an area's header has the number of tokens.
-pub const TOKENS_PLACE: usize = 6;
-
 // What the walk of an area needs: a list of nodes and frames; and a mark for each slot.
 pub const WALK_SIZE: usize = trees::NODE_SIZE * trees::MAX_SLOTS
     + walks::FRAME_SIZE * (trees::MAX_SLOTS + 1);
@@ -62,7 +59,7 @@ fn edit_range(
     requires { ⌜ Prepared (grammarIn (now rows) t n start count) × Tables (grammarIn (now rows) t n start count) (now tables) × Treed (grammarIn (now rows) t n start count) slots (now tree) (now work) o × Counted t (now tokens) m × (workAreas * length (now tree) ≤ length (now work)) ⌝ }
     ensures { λ r. ⌜ Edits (now (tables .entry)) (now (tokens .entry)) place removed (length (now (work .entry))) (now (tree .entry)) (grammarIn (now (rows .entry)) t n start count) r (now (tree .exit)) ⌝ }
 {
-    let old = base::get16(tree, TOKENS_PLACE);
+    let old = base::get16(tree, trees::TOKENS_PLACE);
     if old < place as usize + removed as usize {
         return Reply::Refused(Reason::BeyondTokens(old as u64));
     }

@@ -14,7 +14,7 @@ use Rattle.grammar.specs.Prediction.{Prepared}
 use Rattle.grammar.specs.Image.{Image}
 use Rattle.grammar.specs.Forest.{Token, Forest, size, yield}
 use Rattle.tables.specs.Tables.{Tables}
-use Rattle.trees.specs.Area.{slotAt, top, Valid}
+use Rattle.trees.specs.Area.{tokensPlace, slotAt, top, Valid}
 use Rattle.walks.specs.Reading.{valid-header}
 use Rattle.plain.specs.Plain.{Verdict, accepted, syntax, noRoom, Parses}
 use Rattle.plain.specs.One.{runs-one}
@@ -134,7 +134,7 @@ replaced-bytes place removed w ins l =
     rw (take-bytes w place (omega arith), drop-bytes w (place + removed) l, token-bytes-append (take place w) (ins ++ drop (place + removed) w), token-bytes-append ins (drop (place + removed) w))
 
 module _ {image tables tree tokens work tree' work' before old : List ℕ} {place removed : ℕ} {r r₀ : Reply} (c : Counts) (h : EditOutcome image tables tree place removed tokens work r tree' work') (e : r ≡ Accepted c)
-    (back : ReadOutcome image tree before r₀ old) (whole : length before ≡ tokenSize * get16 tree 6) (output : List ℕ) (l : length (replaced old place removed tokens) ≤ length output) where
+    (back : ReadOutcome image tree before r₀ old) (whole : length before ≡ tokenSize * get16 tree tokensPlace) (output : List ℕ) (l : length (replaced old place removed tokens) ≤ length output) where
   abbrev x : Renewed image tree place removed tokens c tree'
   x = edit-renews c h e
 

@@ -9,7 +9,7 @@ use Rattle.base.specs.Bytes.{get16}
 use Rattle.grammar.specs.Grammar.{Grammar}
 use Rattle.grammar.specs.Forest.{Token, Forest, size, yield}
 use Rattle.grammar.specs.Rows.{grammarIn}
-use Rattle.trees.specs.Area.{areaSize, Valid}
+use Rattle.trees.specs.Area.{tokensPlace, areaSize, Valid}
 use Rattle.walks.specs.Reading.{valid-header}
 use Rattle.plain.specs.Tokens.{tokenSize, tokenBytes}
 use Rattle.sentences.specs.Adding.{Added}
@@ -38,19 +38,19 @@ module _ (rows : List ℕ) (t n start count S : ℕ) (tree nodes : List ℕ) (o 
   abbrev H : Grammar
   H = grammarIn rows t n start count
 
-  pub returns-short : (output : List ℕ) (m need : ℕ) → m ≡ get16 tree 6 → need ≡ tokenSize * m → length output < need → Returns tree output H (Refused (reasons.ShortOutput need)) output
+  pub returns-short : (output : List ℕ) (m need : ℕ) → m ≡ get16 tree tokensPlace → need ≡ tokenSize * m → length output < need → Returns tree output H (Refused (reasons.ShortOutput need)) output
   returns-short output m need e f l =
       let q : need ≡ needed (h .valid .tree) = let y = valid-header (h .valid) .tokens in omega (arith, e, f, y) in
       rw q (short-output (h .valid) (rw q at l))
 
   -- there are no more tokens than slots
-  pub tokens-fit : (m : ℕ) → m ≡ get16 tree 6 → m ≤ S
+  pub tokens-fit : (m : ℕ) → m ≡ get16 tree tokensPlace → m ≤ S
   tokens-fit m e =
       let l = treed-fits rows t n start count S tree nodes o h in
       let y = valid-header (h .valid) .tokens in
       omega (arith, e, y, l, h .count, length-yield (h .valid .tree))
 
-  pub returns-given : (output output' : List ℕ) (m i j : ℕ) → m ≡ get16 tree 6 → tokenSize * m ≤ length output → Gave nodes o 0 output 0 m i j output'
+  pub returns-given : (output output' : List ℕ) (m i j : ℕ) → m ≡ get16 tree tokensPlace → tokenSize * m ≤ length output → Gave nodes o 0 output 0 m i j output'
       → Returns tree output H (Accepted (readCounts o)) output'
   returns-given output output' m i j e l u =
       let w : List Token = yield (h .valid .tree) in

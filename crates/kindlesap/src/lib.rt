@@ -504,7 +504,7 @@ fn give_back(
     requires { ⌜ Treed (grammarIn (now rows) t n start count) slots (now tree) (now work) o × (nodeSize * slots + tokenSize * slots ≤ length (now work)) ⌝ }
     ensures { λ r. ⌜ Returns (now (tree .entry)) (now (output .entry)) (grammarIn (now (rows .entry)) t n start count) r (now (output .exit)) ⌝ }
 {
-    let tokens = base::get16(tree, editing::TOKENS_PLACE);
+    let tokens = base::get16(tree, trees::TOKENS_PLACE);
     let need = plain::TOKEN_SIZE * tokens;
     if output.len() < need {
         return Reply::Refused(Reason::ShortOutput(need as u64));

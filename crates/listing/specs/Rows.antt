@@ -7,7 +7,7 @@ use native.Mathlib.Omega.{arith}
 use Rattle.base.specs.Bytes.{byteAt, get16, leBytes}
 use Rattle.base.specs.Blocks.{zeros}
 use Rattle.grammar.specs.Forest.{Forest, size, yield}
-use Rattle.trees.specs.Area.{slotSize, maxSlots, tagSpace, headerBytes, slots, Linked, Area}
+use Rattle.trees.specs.Area.{slotSize, maxSlots, tagSpace, tokensPlace, headerBytes, slots, Linked, Area}
 use Rattle.trees.specs.Slots.{slot-byte}
 use Rattle.trees.specs.Spread.{length-slots}
 use Rattle.walks.specs.Slots.{symbolIn, productionIn, parentIn, tagIn, Fields, fields}
@@ -27,7 +27,7 @@ slotRows b s (suc n) = slotRow b s ++ slotRows b (s + 1) n
 
 -- the text of an area with n nodes
 unfoldable pub areaText : List ℕ → ℕ → List ℕ
-areaText b n = firstRow n (get16 b 6) ++ slotRows b 1 n
+areaText b n = firstRow n (get16 b tokensPlace) ++ slotRows b 1 n
 
 pub rows-more : (b : List ℕ) (s n m : ℕ) → slotRows b s (n + m) ≡ slotRows b s n ++ slotRows b (s + n) m
 unfolding slotRows
@@ -54,7 +54,7 @@ pub rows-all : (b : List ℕ) (i n : ℕ) {at e : ℕ} {w w' : List ℕ} → n �
 rows-all b i n l m h = let q : i ≡ n = omega arith in rw q at h
 
 -- with the first line before them
-pub area-written : (b : List ℕ) (n tokens : ℕ) {m e : ℕ} {w w' w'' : List ℕ} → tokens ≡ get16 b 6 → Written (firstRow n tokens) 0 w m w' → Written (slotRows b 1 n) m w' e w'' → Written (areaText b n) 0 w e w''
+pub area-written : (b : List ℕ) (n tokens : ℕ) {m e : ℕ} {w w' w'' : List ℕ} → tokens ≡ get16 b tokensPlace → Written (firstRow n tokens) 0 w m w' → Written (slotRows b 1 n) m w' e w'' → Written (areaText b n) 0 w e w''
 unfolding areaText
 area-written b n tokens q h k = rw (← q) (written-join h k)
 
@@ -96,7 +96,7 @@ rows-linked b {parent = parent} s (Linked.node {s = x} {k = k} {r = r} h i j) l 
     rw (y, h', rows-more b (s + 1) (size k) (size r), u, v)
 
 -- the tokens in the header
-tokens-in : (S : ℕ) (f : Forest) (b : List ℕ) → Area S f b → length (yield f) < 65536 → get16 b 6 ≡ length (yield f)
+tokens-in : (S : ℕ) (f : Forest) (b : List ℕ) → Area S f b → length (yield f) < 65536 → get16 b tokensPlace ≡ length (yield f)
 unfolding headerBytes leBytes zeros
 tokens-in S f b h l =
     let y : (i : ℕ) → i < slotSize → byteAt b (slotSize * 0 + i) ≡ byteAt (headerBytes _ _ _) i = λ i m. sym (slot-byte b 0 i m) ∙ ap (λ (u : List ℕ). byteAt u i) (h .header) in
@@ -105,5 +105,5 @@ tokens-in S f b h l =
 pub accepted-text : (S : ℕ) (f : Forest) (b : List ℕ) → S ≤ maxSlots → Area S f b → size f ≤ S → slots f ≡ upFrom 1 (size f) → areaText b (size f) ≡ acceptedText f
 unfolding areaText acceptedText
 accepted-text S f b l h m e =
-    let t : get16 b 6 ≡ length (yield f) = tokens-in S f b h (omega (arith, length-yield f)) in
+    let t : get16 b tokensPlace ≡ length (yield f) = tokens-in S f b h (omega (arith, length-yield f)) in
     rw (t, rows-linked b 1 (h .linked) (omega arith) (omega arith) e)

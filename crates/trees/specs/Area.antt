@@ -37,6 +37,10 @@ nodeMark = 0x4E ∷ 0x44 ∷ []
 unfoldable pub headerBytes : ℕ → ℕ → ℕ → List ℕ
 headerBytes root used tokens = treeMark ++ (leBytes 2 root ++ (leBytes 2 used ++ (leBytes 2 tokens ++ zeros 8)))
 
+-- where the header has the number of tokens
+abbrev pub tokensPlace : ℕ
+tokensPlace = 6
+
 -- "A used slot: `4E 44`, symbol and production (1 byte each; production 0 for a leaf), then parent, first child and next sibling (2 bytes each, 0 for none), tag (4; 0 unless a leaf), two zeros"
 unfoldable pub slotBytes : ℕ → ℕ → ℕ → ℕ → ℕ → ℕ → List ℕ
 slotBytes symbol production parent first next tag =

@@ -8,7 +8,7 @@ use Rattle.base.specs.Blocks.{zeros, length-zeros}
 use Rattle.grammar.specs.Each.{Each, each-head, each-tail}
 use Rattle.grammar.specs.Forest.{Forest, size, yield}
 use Rattle.trees.specs.Area.{slotSize, maxSlots, areaSize, tagSpace, slotAt, slotBytes, headerBytes, top, slots, Distinct, Linked, Area}
-use Rattle.trees.specs.Nodes.{Node, trees, front, back, above, build, Fed}
+use Rattle.trees.specs.Nodes.{Node, leafOf, trees, front, back, above, build, Fed}
 use Rattle.grammar.specs.Rows.{lengthAt}
 use Rattle.trees.specs.Coded.{nodeAt, nodesFrom, length-nodes, arityIn}
 use Rattle.trees.specs.Listing.{nodeOf}
@@ -199,16 +199,11 @@ module _ (w : List ℕ) (n i : ℕ) (l : 0 < i) (m : i ≤ n) where
 
 -- ---- the tokens
 
--- 1 for a leaf
-abbrev pub tokenOf : ℕ → ℕ
-tokenOf zero = 1
-tokenOf (suc p) = 0
-
-pub token-leaf : (p q : ℕ) → p ≡ q → p ≡ 0 → 1 ≡ tokenOf q
+pub token-leaf : (p q : ℕ) → p ≡ q → p ≡ 0 → 1 ≡ leafOf q
 token-leaf p zero e z = refl
 token-leaf p (suc q) e z = absurd (omega arith)
 
-pub token-inner : (p q : ℕ) → p ≡ q → (p ≡ 0 → ⊥) → 0 ≡ tokenOf q
+pub token-inner : (p q : ℕ) → p ≡ q → (p ≡ 0 → ⊥) → 0 ≡ leafOf q
 token-inner p zero e z = absurd (z e)
 token-inner p (suc q) e z = refl
 
@@ -219,12 +214,12 @@ pub record Counted (ar : ℕ → ℕ) (es : List Node) (tokens : ℕ) : Type 0 w
 pub counted-none : (ar : ℕ → ℕ) (w : List ℕ) (n : ℕ) → Counted ar (nodesFrom w (n - n) n) 0
 counted-none ar w n = let q : n - n ≡ 0 = omega arith in rw q (record { count = refl })
 
-pub counted-turn : (ar : ℕ → ℕ) (w : List ℕ) (n i x tokens : ℕ) → 0 < i → i ≤ n → x ≡ tokenOf (nodeAt w (i - 1) .production)
+pub counted-turn : (ar : ℕ → ℕ) (w : List ℕ) (n i x tokens : ℕ) → 0 < i → i ≤ n → x ≡ leafOf (nodeAt w (i - 1) .production)
     → Counted ar (nodesFrom w (n - i) i) tokens → Counted ar (nodesFrom w (n - (i - 1)) (i - 1)) (tokens + x)
 counted-turn ar w n i x tokens l m e h =
     rw (nodes-before w n i l m) (record { count = go (nodeAt w (i - 1) .production) e })
   where
-    go : (p : ℕ) → x ≡ tokenOf p → tokens + x ≡ length (yield (above ar (nodeOf (nodeAt w (i - 1) .slot) (nodeAt w (i - 1) .symbol) p (nodeAt w (i - 1) .tag)) (build ar (nodesFrom w (n - i) i))))
+    go : (p : ℕ) → x ≡ leafOf p → tokens + x ≡ length (yield (above ar (nodeOf (nodeAt w (i - 1) .slot) (nodeAt w (i - 1) .symbol) p (nodeAt w (i - 1) .tag)) (build ar (nodesFrom w (n - i) i))))
     go zero e = omega (arith, h .count)
     go (suc p) e =
         omega (arith, h .count, tokens-inner ar (nodeAt w (i - 1) .slot) (nodeAt w (i - 1) .symbol) (nodeAt w (i - 1) .tag) (build ar (nodesFrom w (n - i) i)) (suc p) (omega arith))

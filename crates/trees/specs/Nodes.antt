@@ -38,6 +38,15 @@ leavesOf (e ∷ es) = go (e .production) (leavesOf es)
     go zero w = record { kind = e .symbol; tag = e .tag } ∷ w
     go (suc p) w = w
 
+-- 1 for a leaf's production
+abbrev pub leafOf : ℕ → ℕ
+leafOf zero = 1
+leafOf (suc p) = 0
+
+pub no-leaf : (p : ℕ) → (p ≡ 0 → ⊥) → leafOf p ≡ 0
+no-leaf zero n = absurd (n refl)
+no-leaf (suc p) n = refl
+
 -- how many trees stand side by side
 abbrev pub trees : Forest → ℕ
 trees Forest.nil = 0

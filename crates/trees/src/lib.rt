@@ -6,11 +6,11 @@ ghost use Rattle.trees.specs.Area.{slotSize, maxSlots, areaSize, tagSpac
 ghost use Rattle.base.specs.Bytes.{byteAt, get16, put16};
 ghost use Rattle.base.specs.Filled.{Filled};
 ghost use Rattle.trees.specs.Coded.{nodeSize, nodeBytes, nodeAt, nodesFrom, arityIn};
-ghost use Rattle.trees.specs.Nodes.{build, Fed};
+ghost use Rattle.trees.specs.Nodes.{leafOf, build, Fed};
 ghost use Rattle.trees.specs.Listing.{nodeOf, inSlot, Fits, Put};
 ghost use Rattle.trees.specs.Slots.{Slotted, parentPlace, nextPlace};
 ghost use Rattle.trees.specs.Adopting.{adopted, Reach};
-ghost use Rattle.trees.specs.Laying.{Ready, Lays, tokenOf};
+ghost use Rattle.trees.specs.Laying.{Ready, Lays};
 ghost use Rattle.trees.specs.Spread.{Spread};
 
 pub const NODE_SIZE: usize = 8;
@@ -29,6 +29,9 @@ pub const TREE_MARK_END: u8 = 0x52;
 pub const NODE_MARK: u8 = 0x4E;
 
 pub const NODE_MARK_END: u8 = 0x44;
+
+// Where a header has the number of tokens.
+pub const TOKENS_PLACE: usize = 6;
 
 // The places of a slot's parent and next sibling.
 const PARENT: usize = 4;
@@ -218,7 +221,7 @@ fn lay_node(nodes: &[u8], i: usize, rows: &[u8], head: usize, area: &mut [u8]) -
 // 1 for a leaf, else 0.
 fn token(nodes: &[u8], i: usize) -> usize
     requires { ⌜ nodeSize * i + nodeSize ≤ length (now nodes) ⌝ }
-    ensures { λ r. ⌜ (r ≡ tokenOf (nodeAt (now (nodes .entry)) i .production)) × (r ≤ 1) ⌝ }
+    ensures { λ r. ⌜ (r ≡ leafOf (nodeAt (now (nodes .entry)) i .production)) × (r ≤ 1) ⌝ }
 {
     if nodes[NODE_SIZE * i + 1] == 0 {
         return 1;

@@ -1,6 +1,6 @@
 -- Poor programs that the contracts of prepare, parse and edit rule out: one that refuses everything, one that has one reply for all, and edits that touch nothing, reparse, or keep too much.
 use Prim.Native.Nat.{ℕ, zero, suc, _*_, _≤_}
-use mathlib.Core.Path.{_≡_, refl, ap, sym, _∙_, subst}
+use mathlib.Core.Path.{_≡_, refl, ap, sym, _∙_}
 use mathlib.Core.List.{List, [], _∷_}
 use lib.ListN.{length, getD}
 use native.Mathlib.Omega.{arith}
@@ -12,7 +12,7 @@ use Rattle.grammar.specs.Grammar.{Grammar, TerminalOf}
 use Rattle.grammar.specs.Prediction.{Prepared}
 use Rattle.grammar.specs.Forest.{Token, Forest, yield}
 use Rattle.grammar.specs.Image.{bad-head}
-use Rattle.grammar.specs.Images.{image-one, good-not-bad, bad-one}
+use Rattle.grammar.specs.Images.{bad-one}
 use Rattle.grammar.specs.Reference.{reference, referenceImage, reference-image}
 use Rattle.tables.specs.Tables.{tablesSize, Tables}
 use Rattle.trees.specs.Area.{areaSize, top, Area, Valid}
@@ -28,7 +28,7 @@ use Rattle.replies.specs.declared.Reply.{Reply}
 use Rattle.replies.specs.declared.Reason.{Reason}
 use Rattle.replies.specs.declared.Reason.the-variants.{BadGrammar, Syntax, NoRoom}
 use Rattle.replies.specs.declared.Reply.the-variants.{Accepted, Refused}
-use Rattle.kindlesap.specs.Judged.{Judged, useless, conflict, fit, Opened, bad-image, good-image}
+use Rattle.kindlesap.specs.Judged.{Opened, bad-image, good-image, opened-fit}
 use Rattle.kindlesap.specs.Prepare.{Writes, wrong-size, written, Prepares}
 use Rattle.kindlesap.specs.Parse.{workAreas, Sized, parseCounts, Stored, Fits, wrong-tables, wrong-area, short-work, bad-token, wrong-syntax, no-room, stored, ParseOutcome, stored-parses, verdict-one}
 use Rattle.kindlesap.specs.ReadBack.{trees-one}
@@ -44,13 +44,7 @@ use Rattle.worked.specs.Examples.{kindsU, kindsV, treeU, treeV, exampleH
 
 -- the reference image passes replies 1 to 3
 opened-reference : {Q : Grammar → Reply → List ℕ → Type 0} {w w' : List ℕ} {r : Reply} → Opened referenceImage Q w r w' → Q reference r w'
-opened-reference (bad-image b) = absurd (good-not-bad reference-image b)
-opened-reference {Q} {w} {w'} {r} (good-image {G = G} i j) = go (subst (λ (K : Grammar). Judged K (Q K) w r w') (image-one i reference-image) j)
-  where
-    go : {r : Reply} {w' : List ℕ} → Judged reference (Q reference) w r w' → Q reference r w'
-    go (useless {M = M} h) = absurd (reference-prepared .useful M (h .holds))
-    go (conflict {M = M} n h) = absurd (reference-prepared .ll1 M (h .holds))
-    go (fit p q) = q
+opened-reference = opened-fit reference-image reference-prepared
 
 -- ---- prepare
 
