@@ -12,7 +12,7 @@ use borrow.Author.Count.{below-more}
 use Rattle.base.specs.Choose.{never}
 use Rattle.base.specs.Tells.{Tells, tells-yes, tells-no}
 use Rattle.base.specs.Bytes.{byteAt, get16, get32, leBytes}
-use Rattle.base.specs.Blocks.{zeros, byte-zeros}
+use Rattle.base.specs.Blocks.{zeros, length-zeros, byte-zeros}
 use Rattle.grammar.specs.Grammar.{Grammar}
 use Rattle.grammar.specs.Forest.{size}
 use Rattle.trees.specs.Area.{slotSize, maxSlots, areaSize, headerBytes, slotAt, Valid}
@@ -27,6 +27,7 @@ use Rattle.walks.specs.Slots.{Known, sixteen}
 use Rattle.walks.specs.Judging.{below}
 use Rattle.walks.specs.Going.{going-end, going-one}
 use Rattle.walks.specs.Reading.{leavesOf, leaves-few, Free, found-valid, valid-few, valid-found, size-preorder}
+use Rattle.walks.specs.Stacked.{marksIn}
 use Rattle.walks.specs.Walking.{gram, Ended, Wandered}
 
 -- ---- the header
@@ -124,44 +125,76 @@ module _ (b m : List ℕ) (s : ℕ) where
   pub clear-all : (S : ℕ) → S < s → ClearTo b m s → Tells (ClearTo b m (S + 1)) true
   clear-all S o k = tells-yes (record { each = λ x a c. k .each x a (omega arith) })
 
--- the eight slots from s on were visited, if 8 is the answer
-pub data Run (m : List ℕ) (s S : ℕ) : ℕ → Type 0 where
-  none : Run m s S 0
-  all : s + 7 ≤ S → ((d : ℕ) → d < 8 → byteAt m (s + d) ≡ 0 → ⊥) → Run m s S 8
+-- the r slots from s on are slots of the area, and clear
+pub record Run (b m : List ℕ) (s S r : ℕ) : Type 0 where
+  pub few : s + r ≤ S + 1
+  pub clear : (d : ℕ) → d < r → Clear b m (s + d)
 
-pub run-all : (m : List ℕ) (s S u v : ℕ) → Known m → s + 7 ≤ S → u ≡ get32 m s → u ≡ 0x01010101 → v ≡ get32 m (s + 4) → v ≡ 0x01010101 → Run m s S 8
-run-all m s S u v k l e e' o o' =
-    let a0 = k .small s in
-    let a1 = k .small (s + 1) in
-    let a2 = k .small (s + 2) in
-    let a3 = k .small (s + 3) in
-    let c0 = k .small (s + 4) in
-    let c1 = k .small (s + 4 + 1) in
-    let c2 = k .small (s + 4 + 2) in
-    let c3 = k .small (s + 4 + 3) in
-    let at : (i j : ℕ) → i ≡ j → (byteAt m i ≡ 0 → ⊥) → byteAt m j ≡ 0 → ⊥ = λ i j q h z. h (ap (byteAt m) q ∙ z) in
-    let P : ℕ → Type 0 = λ d. byteAt m (s + d) ≡ 0 → ⊥ in
-    let p0 : P 0 = at s (s + 0) (omega arith) (λ z. omega (arith, e, e', z, a1, a2, a3)) in
-    let p1 : P 1 = λ z. omega (arith, e, e', z, a0, a2, a3) in
-    let p2 : P 2 = λ z. omega (arith, e, e', z, a0, a1, a3) in
-    let p3 : P 3 = λ z. omega (arith, e, e', z, a0, a1, a2) in
-    let p4 : P 4 = λ z. omega (arith, o, o', z, c1, c2, c3) in
-    let p5 : P 5 = at (s + 4 + 1) (s + 5) (omega arith) (λ z. omega (arith, o, o', z, c0, c2, c3)) in
-    let p6 : P 6 = at (s + 4 + 2) (s + 6) (omega arith) (λ z. omega (arith, o, o', z, c0, c1, c3)) in
-    let p7 : P 7 = at (s + 4 + 3) (s + 7) (omega arith) (λ z. omega (arith, o, o', z, c0, c1, c2)) in
-    let q3 = below-more P 3 (below-more P 2 (below-more P 1 (below-more P 0 (λ i w. absurd (omega arith)) p0) p1) p2) p3 in
-    Run.all l (below-more P 7 (below-more P 6 (below-more P 5 (below-more P 4 q3 p4) p5) p6) p7)
+module _ (b m : List ℕ) where
+  pub run-none : (s S : ℕ) → s ≤ S → Run b m s S 0
+  run-none s S l = record { few = omega arith; clear = λ d o. absurd (omega arith) }
 
-pub run-few : {m : List ℕ} {s S r : ℕ} → Run m s S r → 0 < r → s + r ≤ S + 1
-run-few Run.none l = absurd (omega arith)
-run-few (Run.all o h) l = omega arith
+  four : (s u : ℕ) → Known m → u ≡ get32 m s → u ≡ 0x01010101 → (d : ℕ) → d < 4 → Clear b m (s + d)
+  four s u k e o =
+      let a0 = k .small s in
+      let a1 = k .small (s + 1) in
+      let a2 = k .small (s + 2) in
+      let a3 = k .small (s + 3) in
+      let P : ℕ → Type 0 = λ d. Clear b m (s + d) in
+      let q : s + 0 ≡ s = omega arith in
+      let p0 : P 0 = rw q (record { zero = λ z. absurd (omega (arith, e, o, z)) }) in
+      let p1 : P 1 = record { zero = λ z. absurd (omega (arith, e, o, z)) } in
+      let p2 : P 2 = record { zero = λ z. absurd (omega (arith, e, o, z)) } in
+      let p3 : P 3 = record { zero = λ z. absurd (omega (arith, e, o, z)) } in
+      below-more P 3 (below-more P 2 (below-more P 1 (below-more P 0 (λ i w. absurd (omega arith)) p0) p1) p2) p3
 
-pub clear-run : {m : List ℕ} {s S r : ℕ} (b : List ℕ) → Run m s S r → ClearTo b m s → ClearTo b m (s + r)
-clear-run {s = s} b Run.none k = let e : s + 0 ≡ s = omega arith in rw e k
-clear-run {m} {s} b (Run.all o h) k =
+  -- four marks at once, and again
+  module _ (s S : ℕ) (k : Known m) (l : s + 15 ≤ S) where
+    more : (r u : ℕ) → r ≤ 12 → Run b m s S r → u ≡ get32 m (s + r) → u ≡ 0x01010101 → Run b m s S (r + 4)
+    more r u o h e f =
+        record {
+          few = omega arith;
+          clear = λ d i. ⊎-elim (λ y. h .clear d y) (λ y. let q : s + r + (d - r) ≡ s + d = omega arith in rw q at (four (s + r) u k e f (d - r) (omega arith))) (below d r);
+        }
+
+    module _ (u : ℕ) (eu : u ≡ get32 m s) (fu : u ≡ 0x01010101) where
+      pub run-4 : Run b m s S 4
+      run-4 = record { few = omega arith; clear = four s u k eu fu }
+
+      module _ (v : ℕ) (ev : v ≡ get32 m (s + 4)) (fv : v ≡ 0x01010101) where
+        pub run-8 : Run b m s S 8
+        run-8 = more 4 v (omega arith) run-4 ev fv
+
+        module _ (x : ℕ) (ex : x ≡ get32 m (s + 8)) (fx : x ≡ 0x01010101) where
+          pub run-12 : Run b m s S 12
+          run-12 = more 8 x (omega arith) run-8 ex fx
+
+          pub run-16 : (y : ℕ) → y ≡ get32 m (s + 12) → y ≡ 0x01010101 → Run b m s S 16
+          run-16 y ey fy = more 12 y (omega arith) run-12 ey fy
+
+  -- sixteen slots at once
+  pub run-zero : (s S : ℕ) → s + 15 ≤ S → take (slotSize * s + 256 - slotSize * s) (drop (slotSize * s) b) ≡ zeros (length (take (slotSize * s + 256 - slotSize * s) (drop (slotSize * s) b)))
+      → slotSize * s + 256 ≤ length b → Run b m s S 16
+  run-zero s S l z n = record { few = omega arith; clear = λ d o. record { zero = λ _. at d o } }
+    where
+      part : List ℕ
+      part = take (slotSize * s + 256 - slotSize * s) (drop (slotSize * s) b)
+
+      byte : (i : ℕ) → i < 256 → byteAt b (slotSize * s + i) ≡ 0
+      byte i o =
+          let q : byteAt part i ≡ byteAt b (slotSize * s + i) = getD-take (slotSize * s + 256 - slotSize * s) (drop (slotSize * s) b) i 0 (omega arith) ∙ getD-drop (slotSize * s) b i 0 in
+          sym q ∙ ap (λ (u : List ℕ). byteAt u i) z ∙ byte-zeros (length part) i
+
+      at : (d : ℕ) → d < 16 → slotAt b (s + d) ≡ zeros slotSize
+      at d o =
+          slot-is b (zeros slotSize) (s + d) (omega arith) (length-zeros slotSize)
+          (λ i y. let q : slotSize * (s + d) + i ≡ slotSize * s + (slotSize * d + i) = omega arith in ap (byteAt b) q ∙ byte (slotSize * d + i) (omega arith) ∙ sym (byte-zeros slotSize i))
+
+pub clear-run : {m : List ℕ} {s S r : ℕ} (b : List ℕ) → Run b m s S r → ClearTo b m s → ClearTo b m (s + r)
+clear-run {m} {s} b h k =
     record {
       each = λ x a c. ⊎-elim (λ l. k .each x a l)
-          (λ l. record { zero = λ z. absurd (h (x - s) (omega arith) (let e : s + (x - s) ≡ x = omega arith in rw e z)) })
+          (λ l. let e : s + (x - s) ≡ x = omega arith in rw e at (h .clear (x - s) (omega arith)))
           (below x s);
     }
 
@@ -172,20 +205,20 @@ pub data Reads (G : Grammar) (S : ℕ) (b w : List ℕ) : Walked → Type 0 wher
   tree : {n : ℕ} (v : Valid G S b) → preorder (v .tree) ≡ nodesFrom w n 0 → n ≡ size (v .tree) → Reads G S b w (Tree n)
   none : (Valid G S b → ⊥) → Reads G S b w NoTree
 
-module _ (rows : List ℕ) (t n start count S : ℕ) (b w m : List ℕ) where
+module _ (rows : List ℕ) (t n start count S : ℕ) (b w : List ℕ) where
   abbrev G· : Grammar
   G· = gram rows t n start count S b
 
   -- the walk went astray
-  pub reads-astray : (r : Course) → Wandered rows t n start count S b w m r → r ≡ Astray → Reads G· S b w NoTree
+  pub reads-astray : (r : Course) → Wandered rows t n start count S b w r → r ≡ Astray → Reads G· S b w NoTree
   reads-astray r (Wandered.through l h) e = never (cc)
   reads-astray r (Wandered.astray h) e = Reads.none (λ v. h .no (preorder (v .tree)) (valid-found v .walks) (valid-found v .once) (valid-few v))
 
-  module _ (r : Course) (i leaves : ℕ) (h : Wandered rows t n start count S b w m r) (e : r ≡ Through i leaves) where
-    ended : Ended rows t n start count S b w m i leaves
+  module _ (r : Course) (i leaves : ℕ) (h : Wandered rows t n start count S b w r) (e : r ≡ Through i leaves) where
+    ended : Ended rows t n start count S b w i leaves
     ended = go h e
       where
-        go : {r : Course} → Wandered rows t n start count S b w m r → r ≡ Through i leaves → Ended rows t n start count S b w m i leaves
+        go : {r : Course} → Wandered rows t n start count S b w r → r ≡ Through i leaves → Ended rows t n start count S b w i leaves
         go (Wandered.through {i = j} {leaves = k} l h) e =
             let q : j ≡ i = cc in
             let o : k ≡ leaves = cc in
@@ -195,7 +228,7 @@ module _ (rows : List ℕ) (t n start count S : ℕ) (b w m : List ℕ) where
     pub wandered-few : (i ≤ S) × (leaves ≤ i)
     wandered-few = (go h e, omega (arith, ended .counted, leaves-few (nodesFrom w i 0), length-nodes w i 0))
       where
-        go : {r : Course} → Wandered rows t n start count S b w m r → r ≡ Through i leaves → i ≤ S
+        go : {r : Course} → Wandered rows t n start count S b w r → r ≡ Through i leaves → i ≤ S
         go (Wandered.through {i = j} l h) e = let q : j ≡ i = cc in omega arith
         go (Wandered.astray h) e = never (cc)
 
@@ -209,13 +242,15 @@ module _ (rows : List ℕ) (t n start count S : ℕ) (b w m : List ℕ) where
         let o : slotAt b 0 ≡ headerBytes (get16 b 2) (length (nodesFrom w i 0)) (leavesOf (nodesFrom w i 0)) = rw q at (valid-found v .header) in
         k (record { is = rw (← length-nodes w i 0, ended .counted) o }))
 
-    pub reads-spoilt : (ClearTo b m (S + 1) → ⊥) → Reads G· S b w NoTree
-    reads-spoilt k =
+    pub reads-spoilt : (m : List ℕ) → m ≡ marksIn S w → (ClearTo b m (S + 1) → ⊥) → Reads G· S b w NoTree
+    reads-spoilt m q k =
+        let k' : ClearTo b (marksIn S w) (S + 1) → ⊥ = rw q at k in
         Reads.none (λ v. let f : Free S b (nodesFrom w i 0) = rw (same v) at (valid-found v .free) in
-        k (record { each = λ x a c. record { zero = λ z. f .zero x a (omega arith) (λ y. omega (arith, z, ended .marked .marked x y)) } }))
+        k' (record { each = λ x a c. record { zero = λ z. f .zero x a (omega arith) (λ y. omega (arith, z, ended .marked .marked x y)) } }))
 
-    pub reads-tree : 1 ≤ S → S ≤ maxSlots → length b ≡ areaSize S → Heads b i leaves → ClearTo b m (S + 1) → Reads G· S b w (Tree i)
-    reads-tree o few long hd cl =
+    pub reads-tree : 1 ≤ S → S ≤ maxSlots → length b ≡ areaSize S → Heads b i leaves → (m : List ℕ) → m ≡ marksIn S w → ClearTo b m (S + 1) → Reads G· S b w (Tree i)
+    reads-tree o few long hd m e h =
+        let cl : ClearTo b (marksIn S w) (S + 1) = rw e at h in
         let es = nodesFrom w i 0 in
         let q : slotAt b 0 ≡ headerBytes (get16 b 2) (length (nodesFrom w i 0)) (leavesOf (nodesFrom w i 0)) = rw (length-nodes w i 0, ← ended .counted) (hd .is) in
         let f : Free S b (nodesFrom w i 0) = record { zero = λ x a c y. cl .each x a (omega arith) .zero (ended .marked .free x a y) } in

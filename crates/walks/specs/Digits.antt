@@ -18,16 +18,15 @@ digits-none (Digits.cons l d) e = absurd (omega arith)
 
 -- the first symbol and the others
 pub record Split (xs : List ℕ) (r : ℕ) : Type 0 where
-  pub some : 64 ≤ r % 128
   pub rest : List ℕ
-  pub is : xs ≡ (r % 128 - 64) ∷ rest
+  pub is : xs ≡ (r % 64) ∷ rest
   pub digits : Digits rest (r / 128)
 
 split-at : {x r v : ℕ} {xs : List ℕ} → x < symbolSpace → Digits xs r → v ≡ 128 * r + 64 + x → Split (x ∷ xs) v
 split-at {x} {r} {v} {xs} l d e =
-    let a : v % 128 - 64 ≡ x = omega (arith, l, e) in
+    let a : v % 64 ≡ x = omega (arith, l, e) in
     let c : v / 128 ≡ r = omega (arith, l, e) in
-    record { some = omega (arith, l, e); rest = xs; is = rw a; digits = rw c d }
+    record { rest = xs; is = rw a; digits = rw c d }
 
 pub digits-split : {xs : List ℕ} {r : ℕ} → Digits xs r → (r ≡ 0 → ⊥) → Split xs r
 digits-split Digits.nil n = absurd (n refl)

@@ -4,7 +4,7 @@ use mathlib.Core.Bool.{Bool, true, false}
 use mathlib.Core.Path.{_≡_, refl, sym, ap, _∙_}
 use mathlib.Core.Logic.{_⊎_, ⊎-elim}
 use mathlib.Core.List.{List, _∷_}
-use lib.ListN.{length, getD}
+use lib.ListN.{length, getD, set}
 use native.Mathlib.Omega.{arith}
 use Rattle.base.specs.Tells.{Tells, tells-yes, tells-no}
 use Rattle.base.specs.Bytes.{byteAt, get16}
@@ -18,6 +18,7 @@ use Rattle.walks.specs.declared.Kids.the-variants.{Body, Unfit}
 use Rattle.walks.specs.Slots.{symbolIn, productionIn, parentIn, tagIn, fields, Known, Used, slot-used}
 use Rattle.walks.specs.Digits.{Digits, digits-head}
 use Rattle.walks.specs.Words.{wordCount, Worded}
+use Rattle.walks.specs.Stacked.{marksAt}
 
 -- ---- the slot
 
@@ -116,22 +117,37 @@ pub ruleset kinds = (kin-zero, kin-over, kin-leaf, kin-left, kin-tag, kin-node)
 
 -- ---- the visit
 
--- slot s was written as node i, or it is not the node that is expected
-pub data Visited (rows : List ℕ) (t count : ℕ) (b : List ℕ) (s par x : ℕ) (w : List ℕ) (i : ℕ) (w' : List ℕ) : Kids → Type 0 where
-  body : {r : ℕ} → Suits b s par x → Kin rows t count x (productionIn b s) (tagIn b s) (Body r) → tagIn b s < tagSpace
-      → Put w i (nodeOf s (symbolIn b s) (productionIn b s) (tagIn b s)) w' → Visited rows t count b s par x w i w' (Body r)
-  unfit : length w' ≡ length w → (Suits b s par x → Kin rows t count x (productionIn b s) (tagIn b s) Unfit) → Visited rows t count b s par x w i w' Unfit
+-- slot s is the node that is expected, and its children have the symbols of r
+pub record Meets (rows : List ℕ) (t count : ℕ) (b : List ℕ) (s par x r : ℕ) : Type 0 where
+  pub suits : Suits b s par x
+  pub kin : Kin rows t count x (productionIn b s) (tagIn b s) (Body r)
+  pub tag : tagIn b s < tagSpace
 
-module _ (rows : List ℕ) (t count : ℕ) (b : List ℕ) (s par x : ℕ) (w : List ℕ) (i : ℕ) where
-  pub visited-unlike : (u : Bool) → Tells (Suits b s par x) u → u ≡ false → Visited rows t count b s par x w i w Unfit
-  visited-unlike u h e = Visited.unfit refl (λ f. absurd (h .no e f))
+-- slot s was written as node i and marked, or it is none of the area, or marked, or not the node that is expected
+pub data Visited (rows : List ℕ) (t count S : ℕ) (b : List ℕ) (s par x : ℕ) (w : List ℕ) (i : ℕ) (w' : List ℕ) : Kids → Type 0 where
+  body : {r : ℕ} {v : List ℕ} → s ≤ S → byteAt w (marksAt S + s) ≡ 0 → Meets rows t count b s par x r → Put w i (nodeOf s (symbolIn b s) (productionIn b s) (tagIn b s)) v
+      → w' ≡ set v (marksAt S + s) 1 → Visited rows t count S b s par x w i w' (Body r)
+  over : S < s → Visited rows t count S b s par x w i w' Unfit
+  marked : s ≤ S → (byteAt w (marksAt S + s) ≡ 0 → ⊥) → Visited rows t count S b s par x w i w' Unfit
+  unfit : (Suits b s par x → Kin rows t count x (productionIn b s) (tagIn b s) Unfit) → Visited rows t count S b s par x w i w' Unfit
 
-  module _ (v g : ℕ) (known : Known b) (ev : v ≡ get16 b (slotSize * s + 2)) (eg : g ≡ tagIn b s) (r : Kids) (k : Kin rows t count x (v / 256) g r) where
-    ep : v / 256 ≡ productionIn b s
-    ep = both-in b s v ev known .1
+module _ (rows : List ℕ) (t count S : ℕ) (b : List ℕ) (s par x : ℕ) (w : List ℕ) (i : ℕ) where
+  pub visited-unlike : (u : Bool) → Tells (Suits b s par x) u → u ≡ false → Visited rows t count S b s par x w i w Unfit
+  visited-unlike u h e = Visited.unfit (λ f. absurd (h .no e f))
 
-    pub visited-unfit : r ≡ Unfit → Visited rows t count b s par x w i w Unfit
-    visited-unfit e = Visited.unfit refl (λ f. rw (e, ep, eg) at k)
+  module _ (at : ℕ) (ea : at ≡ marksAt S) (l : s ≤ S) where
+    pub visited-marked : (byteAt w (at + s) ≡ 0 → ⊥) → Visited rows t count S b s par x w i w Unfit
+    visited-marked n = Visited.marked l (λ z. n (rw ea z))
 
-    pub visited-body : (u : Bool) → Tells (Suits b s par x) u → u ≡ true → (y : ℕ) → r ≡ Body y → g < tagSpace → (w' : List ℕ) → Put w i (nodeOf s (v % 256) (v / 256) g) w' → Visited rows t count b s par x w i w' (Body y)
-    visited-body u h e y er l w' put = Visited.body (h .yes e) (rw (er, ep, eg) at k) (rw eg at l) (rw (both-in b s v ev known .0, ep, eg) at put)
+    module _ (v g : ℕ) (known : Known b) (ev : v ≡ get16 b (slotSize * s + 2)) (eg : g ≡ tagIn b s) (r : Kids) (k : Kin rows t count x (v / 256) g r) where
+      ep : v / 256 ≡ productionIn b s
+      ep = both-in b s v ev known .1
+
+      pub visited-unfit : r ≡ Unfit → Visited rows t count S b s par x w i w Unfit
+      visited-unfit e = Visited.unfit (λ f. rw (e, ep, eg) at k)
+
+      pub visited-body : byteAt w (at + s) ≡ 0 → (u : Bool) → Tells (Suits b s par x) u → u ≡ true → (y : ℕ) → r ≡ Body y → g < tagSpace → (w1 w' : List ℕ)
+          → Put w i (nodeOf s (v % 256) (v / 256) g) w1 → w' ≡ set w1 (at + s) 1 → Visited rows t count S b s par x w i w' (Body y)
+      visited-body z u h e y er lg w1 w' put ew =
+          let meets : Meets rows t count b s par x y = record { suits = h .yes e; kin = rw (er, ep, eg) at k; tag = rw eg at lg } in
+          Visited.body l (rw ea at z) meets (rw (both-in b s v ev known .0, ep, eg) at put) (rw ea at ew)

@@ -10,13 +10,12 @@ use Rattle.grammar.specs.RowRules.{bodyAt, rule-at, rule-row}
 use Rattle.trees.specs.Area.{slotBytes, slotAt}
 use Rattle.trees.specs.Nodes.{Node, leafNode, innerNode}
 use Rattle.trees.specs.Listing.{nodeOf}
-use Rattle.walks.specs.declared.Kids.{Kids}
 use Rattle.walks.specs.declared.Kids.the-variants.{Body, Unfit}
 use Rattle.walks.specs.Slots.{symbolIn, productionIn, parentIn, firstIn, nextIn, tagIn, fields, Used, fields-used}
 use Rattle.walks.specs.Frames.{Frame, frame, Stands, Walks}
 use Rattle.walks.specs.Going.{Stuck, blocked}
 use Rattle.walks.specs.Digits.{Digits, digits-none}
-use Rattle.walks.specs.Judging.{Kin, Visited}
+use Rattle.walks.specs.Judging.{Suits, Kin, Meets}
 
 module _ (rows : List ℕ) (t n start count : ℕ) where
   abbrev pub G· : Grammar
@@ -65,9 +64,8 @@ module _ (rows : List ℕ) (t n start count : ℕ) where
       stuck-seen : (Seen S b s par x xs fs → ⊥) → Stuck G· S b (ahead ∷ fs)
       stuck-seen k = record { no = λ es h. k (seen refl l h) }
 
-      pub stuck-unfit : {w w' : List ℕ} {i : ℕ} {r : Kids} → Visited rows t count b s par x w i w' r → r ≡ Unfit → Stuck G· S b (ahead ∷ fs)
-      stuck-unfit (Visited.body f k o p) e = never (cc)
-      stuck-unfit (Visited.unfit o k) e = stuck-seen go
+      pub stuck-unfit : (Suits b s par x → Kin rows t count x (productionIn b s) (tagIn b s) Unfit) → Stuck G· S b (ahead ∷ fs)
+      stuck-unfit k = stuck-seen go
         where
           none : Kin rows t count x (productionIn b s) (tagIn b s) Unfit → Seen S b s par x xs fs → ⊥
           none (Kin.none a c) (Seen.leaf u i p z w y h) = a z w
@@ -84,8 +82,8 @@ module _ (rows : List ℕ) (t n start count : ℕ) where
           go (Seen.leaf u i p o w y h) = blocked fs behind m z h (frame 0 s [] ∷ []) refl
           go (Seen.node {q = q} u i p o w y g h) = blocked fs behind m z h (frame (firstIn b s) s (bodyAt rows q) ∷ []) refl
 
-      pub stuck-below : {w w' : List ℕ} {i r : ℕ} → Visited rows t count b s par x w i w' (Body r) → r ≡ 0 → (firstIn b s ≡ 0 → ⊥) → Stuck G· S b (ahead ∷ fs)
-      stuck-below (Visited.body f k o p) z m = stuck-seen (go k z)
+      pub stuck-below : {r : ℕ} → Meets rows t count b s par x r → r ≡ 0 → (firstIn b s ≡ 0 → ⊥) → Stuck G· S b (ahead ∷ fs)
+      stuck-below h z m = stuck-seen (go (h .kin) z)
         where
           go : {v : ℕ} → Kin rows t count x (productionIn b s) (tagIn b s) (Body v) → v ≡ 0 → Seen S b s par x xs fs → ⊥
           go k z (Seen.leaf u i p o w y h) = m y
@@ -98,20 +96,26 @@ module _ (rows : List ℕ) (t n start count : ℕ) where
     -- ---- the node that stands there
 
     -- a node without children
-    pub stands-bare : {w w' : List ℕ} {i r : ℕ} → Visited rows t count b s par x w i w' (Body r) → r ≡ 0 → firstIn b s ≡ 0 → nextIn b s < 65536 → Stands G· b ahead written (frame 0 s []) behind
+    pub stands-bare : {r : ℕ} → Meets rows t count b s par x r → r ≡ 0 → firstIn b s ≡ 0 → nextIn b s < 65536 → Stands G· b ahead written (frame 0 s []) behind
     unfolding grammarIn
-    stands-bare (Visited.body f (Kin.leaf z y) lt p) e o ln =
-        let q : slotAt b s ≡ slotBytes x 0 par 0 (nextIn b s) (tagIn b s) = rw (f .symbol, z, f .parent, o) at (f .used .is) in
-        let a : leafNode s x (tagIn b s) ≡ written = let i = f .symbol in cc in
-        let st : Stands G· b ahead (leafNode s x (tagIn b s)) (frame 0 s []) behind = Stands.leaf refl y q ln lt in
-        rw a at st
-    stands-bare (Visited.body f (Kin.node {q = q} z y a g d) lt p) e o ln =
-        let h : slotAt b s ≡ slotBytes x (suc q) par 0 (nextIn b s) 0 = rw (f .symbol, z, f .parent, o, g) at (f .used .is) in
-        let c : innerNode s x (suc q) ≡ written = let i = f .symbol in cc in
-        let r : Rule G· (suc q) x (bodyAt rows q) = rw a at (rule-at rows t n start count q y) in
-        let r' : Rule G· (suc q) x [] = rw (digits-none d e) at r in
-        let st : Stands G· b ahead (innerNode s x (suc q)) (frame 0 s []) behind = Stands.node refl r' h (omega arith) ln in
-        rw c at st
+    stands-bare h e o ln = go (h .kin) e
+      where
+        f : Suits b s par x
+        f = h .suits
+
+        go : {v : ℕ} → Kin rows t count x (productionIn b s) (tagIn b s) (Body v) → v ≡ 0 → Stands G· b ahead written (frame 0 s []) behind
+        go (Kin.leaf z y) e =
+            let q : slotAt b s ≡ slotBytes x 0 par 0 (nextIn b s) (tagIn b s) = rw (f .symbol, z, f .parent, o) at (f .used .is) in
+            let a : leafNode s x (tagIn b s) ≡ written = let i = f .symbol in cc in
+            let st : Stands G· b ahead (leafNode s x (tagIn b s)) (frame 0 s []) behind = Stands.leaf refl y q ln (h .tag) in
+            rw a at st
+        go (Kin.node {q = q} z y a g d) e =
+            let u : slotAt b s ≡ slotBytes x (suc q) par 0 (nextIn b s) 0 = rw (f .symbol, z, f .parent, o, g) at (f .used .is) in
+            let c : innerNode s x (suc q) ≡ written = let i = f .symbol in cc in
+            let r : Rule G· (suc q) x (bodyAt rows q) = rw a at (rule-at rows t n start count q y) in
+            let r' : Rule G· (suc q) x [] = rw (digits-none d e) at r in
+            let st : Stands G· b ahead (innerNode s x (suc q)) (frame 0 s []) behind = Stands.node refl r' u (omega arith) ln in
+            rw c at st
 
     -- a node with children, which have these symbols
     pub record Bears (r : ℕ) : Type 0 where
@@ -119,12 +123,18 @@ module _ (rows : List ℕ) (t n start count : ℕ) where
       pub digits : Digits symbols r
       pub stands : Stands G· b ahead written (frame (firstIn b s) s symbols) behind
 
-    pub stands-bearing : {w w' : List ℕ} {i r : ℕ} → Visited rows t count b s par x w i w' (Body r) → (r ≡ 0 → ⊥) → firstIn b s < 65536 → nextIn b s < 65536 → Bears r
+    pub stands-bearing : {r : ℕ} → Meets rows t count b s par x r → (r ≡ 0 → ⊥) → firstIn b s < 65536 → nextIn b s < 65536 → Bears r
     unfolding grammarIn
-    stands-bearing (Visited.body f (Kin.leaf z y) lt p) m lf ln = absurd (m refl)
-    stands-bearing (Visited.body f (Kin.node {q = q} z y a g d) lt p) m lf ln =
-        let h : slotAt b s ≡ slotBytes x (suc q) par (firstIn b s) (nextIn b s) 0 = rw (f .symbol, z, f .parent, g) at (f .used .is) in
-        let c : innerNode s x (suc q) ≡ written = let i = f .symbol in cc in
-        let r : Rule G· (suc q) x (bodyAt rows q) = rw a at (rule-at rows t n start count q y) in
-        let st : Stands G· b ahead (innerNode s x (suc q)) (frame (firstIn b s) s (bodyAt rows q)) behind = Stands.node refl r h lf ln in
-        record { symbols = bodyAt rows q; digits = d; stands = rw c at st }
+    stands-bearing h m lf ln = go (h .kin) m
+      where
+        f : Suits b s par x
+        f = h .suits
+
+        go : {v : ℕ} → Kin rows t count x (productionIn b s) (tagIn b s) (Body v) → (v ≡ 0 → ⊥) → Bears v
+        go (Kin.leaf z y) m = absurd (m refl)
+        go (Kin.node {q = q} z y a g d) m =
+            let u : slotAt b s ≡ slotBytes x (suc q) par (firstIn b s) (nextIn b s) 0 = rw (f .symbol, z, f .parent, g) at (f .used .is) in
+            let c : innerNode s x (suc q) ≡ written = let i = f .symbol in cc in
+            let r : Rule G· (suc q) x (bodyAt rows q) = rw a at (rule-at rows t n start count q y) in
+            let st : Stands G· b ahead (innerNode s x (suc q)) (frame (firstIn b s) s (bodyAt rows q)) behind = Stands.node refl r u lf ln in
+            record { symbols = bodyAt rows q; digits = d; stands = rw c at st }

@@ -1,5 +1,6 @@
 // Walking a tree area of whatever bytes back into the list of its nodes. A body is one number, its symbols the digits, so that the siblings to come are known without
-// the rows. Siblings that wait while others' children are visited are a frame: the slot of the first of them, their parent's, and their symbols.
+// the rows. Siblings that wait while others' children are visited are a frame: the slot of the first of them, their parent's, and their symbols. The lent work area holds
+// the nodes, behind room for a node for each slot the frames, and behind room for a frame more a mark for each slot, which tells whether it was visited.
 // A slot is held against what is expected when it is visited, so that its symbol, production, parent and links are right; afterwards the header and the slots
 // that were not visited are looked at.
 ghost use mathlib.Core.Path.{_≡_};
@@ -11,16 +12,23 @@ ghost use Rattle.base.specs.Tells.{Tells};
 ghost use Rattle.grammar.specs.Rows.{leftAt, grammarIn};
 ghost use Rattle.grammar.specs.RowRules.{bodyAt};
 ghost use Rattle.trees.specs.Area.{slotSize, maxSlots, areaSize};
-ghost use Rattle.trees.specs.Coded.{nodeSize};
 ghost use Rattle.walks.specs.Digits.{Digits};
 ghost use Rattle.walks.specs.Words.{wordCount, Worded};
+ghost use Rattle.walks.specs.Slots.{productionIn, firstIn, nextIn};
 ghost use Rattle.walks.specs.Reading.{leafOf};
 ghost use Rattle.walks.specs.Judging.{Suits, Kin, Visited};
-ghost use Rattle.walks.specs.Stacked.{frameSize, workSize, Framed};
+ghost use Rattle.walks.specs.Stacked.{frameSize, marksAt, workSize, get64, Long, Framed, marksIn};
 ghost use Rattle.walks.specs.Walking.{Wandered};
 ghost use Rattle.walks.specs.Closing.{Heads, Clear, ClearTo, Run, Reads};
 
-pub const FRAME_SIZE: usize = 6;
+// A frame's slot and parent, two bytes each, and its symbols, eight.
+const FRAME_SIZE: usize = 12;
+
+// What a walk of the largest area takes.
+pub const WALK_SIZE: usize = trees::NODE_SIZE * trees::MAX_SLOTS
+    + FRAME_SIZE * (trees::MAX_SLOTS + 1)
+    + trees::MAX_SLOTS
+    + 1;
 
 // A used slot's mark as a two-byte number.
 const NODE_MARKS: usize = 0x444E;
@@ -67,22 +75,11 @@ fn word_of(rows: &[u8], q: usize) -> usize
     BASE * v + DIGIT + grammar::left_at(rows, q)
 }
 
-fn blank(words: &mut [usize])
-    ensures { λ _. ⌜ now (words .exit) ≡ zeros (length (now (words .entry))) ⌝ }
-{
-    let mut i = 0;
-    while i < words.len() {
-        words[i] = 0;
-        i += 1;
-    }
-}
-
-// The words of the productions, each at its number; the others are 0.
+// The words of the productions, each at its number; the others stay 0.
 fn fill_words(rows: &[u8], count: usize, words: &mut [usize])
-    requires { ⌜ length (now words) ≡ wordCount ⌝ }
+    requires { ⌜ (length (now words) ≡ wordCount) × (now words ≡ zeros wordCount) ⌝ }
     ensures { λ _. ⌜ Worded (now (rows .entry)) count (now (words .exit)) ⌝ }
 {
-    blank(words);
     let mut q: usize = 0;
     while q < count {
         if WORDS - 1 <= q {
@@ -138,9 +135,18 @@ fn kin(rows: &[u8], words: &[usize], t: usize, count: usize, x: usize, p: usize,
     Kids::Body(v / BASE)
 }
 
-// Visits slot s, where x is expected below the slot `par`, and writes it as node i.
+// Where the marks begin.
+fn marks_at(slots: usize) -> usize
+    requires { ⌜ slots ≤ maxSlots ⌝ }
+    ensures { λ r. ⌜ r ≡ marksAt slots ⌝ }
+{
+    trees::NODE_SIZE * slots + FRAME_SIZE * (slots + 1)
+}
+
+// Visits slot s, where x is expected below the slot `par`: writes it as node i and marks it.
 fn visit(
     area: &[u8],
+    slots: usize,
     rows: &[u8],
     words: &[usize],
     t: usize,
@@ -151,9 +157,16 @@ fn visit(
     w: &mut [u8],
     i: usize,
 ) -> Kids
-    requires { ⌜ (slotSize * s + slotSize ≤ length (now area)) × (length (now words) ≡ wordCount) × Worded (now rows) count (now words) × (nodeSize * i + nodeSize ≤ length (now w)) × (s < 65536) ⌝ }
-    ensures { λ r. ⌜ Visited (now (rows .entry)) t count (now (area .entry)) s par x (now (w .entry)) i (now (w .exit)) r ⌝ }
+    requires { ⌜ (slots ≤ maxSlots) × (length (now area) ≡ areaSize slots) × (length (now words) ≡ wordCount) × Worded (now rows) count (now words) × (workSize slots ≤ length (now w)) × (i ≤ slots) ⌝ }
+    ensures { λ r. ⌜ Visited (now (rows .entry)) t count slots (now (area .entry)) s par x (now (w .entry)) i (now (w .exit)) r ⌝ }
 {
+    if slots < s {
+        return Kids::Unfit;
+    }
+    let mark = marks_at(slots) + s;
+    if w[mark] != 0 {
+        return Kids::Unfit;
+    }
     if suits(area, s, par, x) {
         let at = trees::SLOT_SIZE * s;
         let both = base::two(area, at + 2);
@@ -164,40 +177,75 @@ fn visit(
             return Kids::Unfit;
         };
         trees::put_node(w, i, s, y, p, g);
+        w[mark] = 1;
         return Kids::Body(body);
     }
     Kids::Unfit
 }
 
-// Writes a frame's slots.
-fn put_frame(w: &mut [u8], at: usize, s: usize, par: usize)
+// The eight-byte number at `at`, little-endian.
+fn eight(b: &[u8], at: usize) -> usize
+    requires { ⌜ at + 8 ≤ length (now b) ⌝ }
+    ensures { λ r. ⌜ r ≡ get64 (now (b .entry)) at ⌝ }
+{
+    base::four(b, at) + 4294967296 * base::four(b, at + 4)
+}
+
+fn put_eight(b: &mut [u8], at: usize, v: usize)
+    requires { ⌜ at + 8 ≤ length (now b) ⌝ }
+    ensures { λ _. ⌜ Long (now (b .entry)) at v (now (b .exit)) ⌝ }
+{
+    base::put_two(b, at, v % 65536);
+    base::put_two(b, at + 2, v / 65536 % 65536);
+    base::put_two(b, at + 4, v / 65536 / 65536 % 65536);
+    base::put_two(b, at + 6, v / 65536 / 65536 / 65536);
+}
+
+fn put_frame(w: &mut [u8], at: usize, s: usize, par: usize, rest: usize)
     requires { ⌜ (at + frameSize ≤ length (now w)) × (s < 65536) × (par < 65536) ⌝ }
-    ensures { λ _. ⌜ Framed (now (w .entry)) at s par (now (w .exit)) ⌝ }
+    ensures { λ _. ⌜ Framed (now (w .entry)) at s par rest (now (w .exit)) ⌝ }
 {
     base::put_two(w, at, s);
     base::put_two(w, at + 2, par);
+    put_eight(w, at + 4, rest);
 }
 
-// 1 for a leaf.
-fn leaf_of(p: usize) -> usize
-    ensures { λ r. ⌜ (r ≡ leafOf p) × (r ≤ 1) ⌝ }
+// Of slot s: its first child's slot, its next sibling's, and 1 for a leaf.
+fn first_in(area: &[u8], s: usize) -> usize
+    requires { ⌜ slotSize * s + slotSize ≤ length (now area) ⌝ }
+    ensures { λ r. ⌜ (r ≡ firstIn (now (area .entry)) s) × (r < 65536) ⌝ }
 {
-    if p == 0 {
+    base::two(area, trees::SLOT_SIZE * s + 6)
+}
+
+fn next_in(area: &[u8], s: usize) -> usize
+    requires { ⌜ slotSize * s + slotSize ≤ length (now area) ⌝ }
+    ensures { λ r. ⌜ (r ≡ nextIn (now (area .entry)) s) × (r < 65536) ⌝ }
+{
+    base::two(area, trees::SLOT_SIZE * s + 8)
+}
+
+fn leaf_in(area: &[u8], s: usize) -> usize
+    requires { ⌜ slotSize * s + slotSize ≤ length (now area) ⌝ }
+    ensures { λ r. ⌜ (r ≡ leafOf (productionIn (now (area .entry)) s)) × (r ≤ 1) ⌝ }
+{
+    if area[trees::SLOT_SIZE * s + 3] == 0 {
         return 1;
     }
     0
 }
 
 // Marks no slot but slot 0, which is none.
-fn fresh(marks: &mut [u8])
-    requires { ⌜ 0 < length (now marks) ⌝ }
-    ensures { λ _. ⌜ now (marks .exit) ≡ set (zeros (length (now (marks .entry)))) 0 1 ⌝ }
+fn fresh(w: &mut [u8], slots: usize)
+    requires { ⌜ (slots ≤ maxSlots) × (workSize slots ≤ length (now w)) ⌝ }
+    ensures { λ _. ⌜ marksIn slots (now (w .exit)) ≡ set (zeros (slots + 1)) 0 1 ⌝ }
 {
-    base::zero(marks);
-    marks[0] = 1;
+    let from = marks_at(slots);
+    base::zero(&mut w[from..from + slots + 1]);
+    w[from] = 1;
 }
 
-// Walks the area from its root, and writes the nodes that it visits; `marks` tells which slots they are. Frame k's symbols are in rests[k].
+// Walks the area from its root, and writes the nodes that it visits.
 fn wander(
     area: &[u8],
     slots: usize,
@@ -208,75 +256,64 @@ fn wander(
     start: usize,
     count: usize,
     w: &mut [u8],
-    marks: &mut [u8],
-    rests: &mut [usize],
 ) -> Course
-    requires { ⌜ (slots ≤ maxSlots) × (length (now area) ≡ areaSize slots) × (length (now words) ≡ wordCount) × Worded (now rows) count (now words) × (workSize slots ≤ length (now w)) × (slots < length (now marks)) × (slots ≤ length (now rests)) ⌝ }
-    ensures { λ r. ⌜ Wandered (now (rows .entry)) t n start count slots (now (area .entry)) (now (w .exit)) (now (marks .exit)) r ⌝ }
+    requires { ⌜ (slots ≤ maxSlots) × (length (now area) ≡ areaSize slots) × (length (now words) ≡ wordCount) × Worded (now rows) count (now words) × (workSize slots ≤ length (now w)) ⌝ }
+    ensures { λ r. ⌜ Wandered (now (rows .entry)) t n start count slots (now (area .entry)) (now (w .exit)) r ⌝ }
 {
-    fresh(marks);
-    let frames = trees::NODE_SIZE * slots;
+    fresh(w, slots);
+    let bottom = trees::NODE_SIZE * slots;
+    let mut top = bottom;
     let mut i: usize = 0;
-    let mut k: usize = 0;
     let mut leaves: usize = 0;
     let mut s = base::two(area, 2);
     let mut par: usize = 0;
     let mut x = start;
     let mut rest: usize = 0;
     loop {
-        if slots < s {
-            return Course::Astray;
-        }
-        if marks[s] != 0 {
-            return Course::Astray;
-        }
-        let Kids::Body(body) = visit(area, rows, words, t, count, s, par, x, w, i) else {
+        let Kids::Body(body) = visit(area, slots, rows, words, t, count, s, par, x, w, i) else {
             return Course::Astray;
         };
-        marks[s] = 1;
-        let at = trees::SLOT_SIZE * s;
         i += 1;
-        leaves += leaf_of(base::wide(area[at + 3]));
+        leaves += leaf_in(area, s);
         if body == 0 {
-            if base::two(area, at + 6) != 0 {
+            if first_in(area, s) != 0 {
                 return Course::Astray;
             }
             if rest == 0 {
-                if base::two(area, at + 8) != 0 {
+                if next_in(area, s) != 0 {
                     return Course::Astray;
                 }
-                if k == 0 {
+                if top == bottom {
                     return Course::Through(i, leaves);
                 }
-                k -= 1;
-                s = base::two(w, frames + FRAME_SIZE * k);
-                par = base::two(w, frames + FRAME_SIZE * k + 2);
-                rest = rests[k];
-                x = rest % BASE - DIGIT;
+                top -= FRAME_SIZE;
+                s = base::two(w, top);
+                par = base::two(w, top + 2);
+                rest = eight(w, top + 4);
+                x = rest % DIGIT;
                 rest = rest / BASE;
                 continue;
             }
-            s = base::two(area, at + 8);
-            x = rest % BASE - DIGIT;
+            s = next_in(area, s);
+            x = rest % DIGIT;
             rest = rest / BASE;
             continue;
         }
         if rest == 0 {
-            if base::two(area, at + 8) != 0 {
+            if next_in(area, s) != 0 {
                 return Course::Astray;
             }
             par = s;
-            s = base::two(area, at + 6);
-            x = body % BASE - DIGIT;
+            s = first_in(area, s);
+            x = body % DIGIT;
             rest = body / BASE;
             continue;
         }
-        put_frame(w, frames + FRAME_SIZE * k, base::two(area, at + 8), par);
-        rests[k] = rest;
-        k += 1;
+        put_frame(w, top, next_in(area, s), par, rest);
+        top += FRAME_SIZE;
         par = s;
-        s = base::two(area, at + 6);
-        x = body % BASE - DIGIT;
+        s = first_in(area, s);
+        x = body % DIGIT;
         rest = body / BASE;
     }
 }
@@ -291,27 +328,13 @@ fn walk(
     start: usize,
     count: usize,
     w: &mut [u8],
-    marks: &mut [u8],
 ) -> Course
-    requires { ⌜ (slots ≤ maxSlots) × (length (now area) ≡ areaSize slots) × (workSize slots ≤ length (now w)) × (slots < length (now marks)) ⌝ }
-    ensures { λ r. ⌜ Wandered (now (rows .entry)) t n start count slots (now (area .entry)) (now (w .exit)) (now (marks .exit)) r ⌝ }
+    requires { ⌜ (slots ≤ maxSlots) × (length (now area) ≡ areaSize slots) × (workSize slots ≤ length (now w)) ⌝ }
+    ensures { λ r. ⌜ Wandered (now (rows .entry)) t n start count slots (now (area .entry)) (now (w .exit)) r ⌝ }
 {
     let mut words = [0usize; WORDS];
     fill_words(rows, count, &mut words);
-    let mut rests = [0usize; trees::MAX_SLOTS];
-    wander(
-        area,
-        slots,
-        rows,
-        &words,
-        t,
-        n,
-        start,
-        count,
-        w,
-        marks,
-        &mut rests,
-    )
+    wander(area, slots, rows, &words, t, n, start, count, w)
 }
 
 // Whether the header has its mark and zeros, and says so many nodes and tokens.
@@ -346,24 +369,35 @@ fn clear(area: &[u8], marks: &[u8], s: usize) -> bool
     base::all_zero(&area[at..at + trees::SLOT_SIZE])
 }
 
-// 8 where the eight slots from s on are all of the area and were visited, else 0.
-fn run_of(marks: &[u8], s: usize, slots: usize) -> usize
-    requires { ⌜ (slots ≤ maxSlots) × (slots < length (now marks)) × (s ≤ slots) ⌝ }
-    ensures { λ r. ⌜ Run (now (marks .entry)) s slots r ⌝ }
+// How many slots from s on are seen at once to be clear: the first four, eight, twelve or sixteen that were visited, or sixteen that are zero.
+fn run_of(area: &[u8], marks: &[u8], s: usize, slots: usize) -> usize
+    requires { ⌜ (slots ≤ maxSlots) × (length (now area) ≡ areaSize slots) × (slots < length (now marks)) × (s ≤ slots) ⌝ }
+    ensures { λ r. ⌜ Run (now (area .entry)) (now (marks .entry)) s slots r ⌝ }
 {
-    if slots < s + 7 {
+    if slots < s + 15 {
         return 0;
     }
-    if marks[s] == 0 {
-        return 0;
+    let first = base::four(marks, s);
+    if first == FOUR_MARKS {
+        if base::four(marks, s + 4) != FOUR_MARKS {
+            return 4;
+        }
+        if base::four(marks, s + 8) != FOUR_MARKS {
+            return 8;
+        }
+        if base::four(marks, s + 12) != FOUR_MARKS {
+            return 12;
+        }
+        return 16;
     }
-    if base::four(marks, s) != FOUR_MARKS {
-        return 0;
+    let others = base::four(marks, s + 4) + base::four(marks, s + 8) + base::four(marks, s + 12);
+    if first + others == 0 {
+        let at = trees::SLOT_SIZE * s;
+        if base::all_zero(&area[at..at + 16 * trees::SLOT_SIZE]) {
+            return 16;
+        }
     }
-    if base::four(marks, s + 4) != FOUR_MARKS {
-        return 0;
-    }
-    8
+    0
 }
 
 // Whether every slot is.
@@ -373,7 +407,7 @@ fn all_clear(area: &[u8], marks: &[u8], slots: usize) -> bool
 {
     let mut s: usize = 1;
     while s <= slots {
-        let run = run_of(marks, s, slots);
+        let run = run_of(area, marks, s, slots);
         if 0 < run {
             s += run;
             continue;
@@ -388,7 +422,6 @@ fn all_clear(area: &[u8], marks: &[u8], slots: usize) -> bool
 }
 
 // Walks an area of whatever bytes back into the list of its nodes, at the beginning of `work`, or finds that it is no valid tree of the grammar in the rows.
-// Behind the nodes `work` holds the frames; `marks` has a byte for each slot.
 pub fn read_tree(
     area: &[u8],
     slots: usize,
@@ -398,17 +431,16 @@ pub fn read_tree(
     start: usize,
     count: usize,
     work: &mut [u8],
-    marks: &mut [u8],
 ) -> Walked
-    requires { ⌜ (1 ≤ slots) × (slots ≤ maxSlots) × (length (now area) ≡ areaSize slots) × (workSize slots ≤ length (now work)) × (slots < length (now marks)) ⌝ }
+    requires { ⌜ (1 ≤ slots) × (slots ≤ maxSlots) × (length (now area) ≡ areaSize slots) × (workSize slots ≤ length (now work)) ⌝ }
     ensures { λ r. ⌜ Reads (grammarIn (now (rows .entry)) t n start count) slots (now (area .entry)) (now (work .exit)) r ⌝ }
 {
-    let Course::Through(nodes, leaves) = walk(area, slots, rows, t, n, start, count, work, marks)
-    else {
+    let Course::Through(nodes, leaves) = walk(area, slots, rows, t, n, start, count, work) else {
         return Walked::NoTree;
     };
     if heads(area, nodes, leaves) {
-        if all_clear(area, marks, slots) {
+        let from = marks_at(slots);
+        if all_clear(area, &work[from..from + slots + 1], slots) {
             return Walked::Tree(nodes);
         }
     }

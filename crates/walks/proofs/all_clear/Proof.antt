@@ -2,7 +2,7 @@ use Prim.Native.Nat.{_+_, _-_, _≤_, _<_}
 use mathlib.Core.Path.{_≡_}
 use lib.ListN.{length}
 use Rattle.trees.specs.Area.{maxSlots, areaSize}
-use Rattle.walks.specs.Closing.{ClearTo, clear-none, clear-more, clear-not, clear-all, clear-run, run-few}
+use Rattle.walks.specs.Closing.{ClearTo, clear-none, clear-more, clear-not, clear-all, clear-run}
 use borrow.Author.Needs.{needs}
 use Rattle.walks.proofs.all_clear.Statement.{statement}
 use Rattle.walks.proofs.all_clear.Tie as tie
@@ -20,13 +20,13 @@ run-of-requires : tie.Need-run-of-requires Inv-loop μ-loop
 run-of-requires c κs = search needs
 
 add-s : tie.Need-add-s Inv-loop μ-loop
-add-s c = let h = run-few (c .before .run-of .ensures) (search needs) in search needs
+add-s c = let h = c .before .run-of .ensures .few in search needs
 
 loop-less : tie.Need-loop-less Inv-loop μ-loop
-loop-less c = let h = run-few (c .before .run-of .ensures) (search needs) in search needs
+loop-less c = let h = c .before .run-of .ensures .few in search needs
 
 loop-again : tie.Need-loop-again Inv-loop μ-loop
-loop-again c = let h = run-few (c .before .run-of .ensures) (search needs) in (search needs, search needs, search needs, search needs, search needs, clear-run _ (c .before .run-of .ensures) (c .before .before .before .loop .inv .5))
+loop-again c = let h = c .before .run-of .ensures .few in (search needs, search needs, search needs, search needs, search needs, clear-run _ (c .before .run-of .ensures) (c .before .before .before .loop .inv .5))
 
 clear-requires : tie.Need-clear-requires Inv-loop μ-loop
 clear-requires c κs = search needs

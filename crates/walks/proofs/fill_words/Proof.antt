@@ -12,11 +12,8 @@ Inv-loop rows count words₀ q₀ words q = (length words ≡ wordCount) × (len
 abbrev μ-loop : tie.MeasureT-loop
 μ-loop rows count words₀ q₀ words q = count - q
 
-blank-requires : tie.Need-blank-requires Inv-loop μ-loop
-blank-requires c κs = search needs
-
 loop-holds : tie.Need-loop-holds Inv-loop μ-loop
-loop-holds c = (search needs, search needs, search needs, worded-none _ _ _ (c .before .before .blank .ensures))
+loop-holds c = (search needs, search needs, search needs, worded-none _ _ _ (c .before .before .pre .1))
 
 sub-if1 : tie.Need-sub-if1 Inv-loop μ-loop
 sub-if1 c = search needs
@@ -60,7 +57,6 @@ fill-words-spec =
     (tie.spec
     Inv-loop
     μ-loop
-    blank-requires
     loop-holds
     sub-if1
     same-length

@@ -1,5 +1,4 @@
-use Rattle.walks.specs.Closing.{Run, run-all}
-use native.Mathlib.Omega.{arith}
+use Rattle.walks.specs.Closing.{run-none, run-4, run-8, run-12, run-16, run-zero}
 use borrow.Author.Needs.{needs}
 use Rattle.walks.proofs.run_of.Statement.{statement}
 use Rattle.walks.proofs.run_of.Tie as tie
@@ -8,19 +7,10 @@ add-if1 : tie.Need-add-if1
 add-if1 c = search needs
 
 returns : tie.Need-returns
-returns c = Run.none
-
-shared-slice-read-if2 : tie.Need-shared-slice-read-if2
-shared-slice-read-if2 c = search needs
-
-returns-2 : tie.Need-returns-2
-returns-2 c = Run.none
+returns c = run-none _ _ _ _ (c .before .before .before .pre .3)
 
 four-requires : tie.Need-four-requires
 four-requires c κs = search needs
-
-returns-3 : tie.Need-returns-3
-returns-3 c = Run.none
 
 add-four : tie.Need-add-four
 add-four c = search needs
@@ -28,11 +18,86 @@ add-four c = search needs
 four-requires-2 : tie.Need-four-requires-2
 four-requires-2 c κs = search needs
 
+returns-2 : tie.Need-returns-2
+returns-2 c = run-4 _ _ _ _ (record { small = λ i. c .before .before .before .before .before .shared-slice-known2 .given i .fits }) (search needs) _ (c .before .before .before .four .ensures .0) (c .before .before .if2 .taken)
+
+add-four-2 : tie.Need-add-four-2
+add-four-2 c = search needs
+
+four-requires-3 : tie.Need-four-requires-3
+four-requires-3 c κs = search needs
+
+returns-3 : tie.Need-returns-3
+returns-3 c = run-8 _ _ _ _ (record { small = λ i. c .before .before .before .before .before .before .before .shared-slice-known2 .given i .fits }) (c .before .before .before .before .before .before .if1 .left) _ (c .before .before .before .before .before .four .ensures .0) (c .before .before .before .before .if2 .taken) _ (c .before .before .before .four2 .ensures .0) (c .before .before .if3 .left)
+
+add-four-3 : tie.Need-add-four-3
+add-four-3 c = search needs
+
+four-requires-4 : tie.Need-four-requires-4
+four-requires-4 c κs = search needs
+
 returns-4 : tie.Need-returns-4
-returns-4 c = Run.none
+returns-4 c = run-12 _ _ _ _ (record { small = λ i. c .before .before .before .before .before .before .before .before .before .shared-slice-known2 .given i .fits }) (c .before .before .before .before .before .before .before .before .if1 .left) _ (c .before .before .before .before .before .before .before .four .ensures .0) (c .before .before .before .before .before .before .if2 .taken) _ (c .before .before .before .before .before .four2 .ensures .0) (c .before .before .before .before .if3 .left) _ (c .before .before .before .four3 .ensures .0) (c .before .before .if4 .left)
 
 returns-5 : tie.Need-returns-5
-returns-5 c = run-all _ _ _ _ _ (record { small = λ i. let h = (c .before .before .before .before .before .shared-slice-known2 .given) i in omega arith }) (search needs) (c .before .before .before .four .ensures .0) (search needs) (c .before .four2 .ensures .0) (search needs)
+returns-5 c = run-16 _ _ _ _ (record { small = λ i. c .before .before .before .before .before .before .before .before .before .shared-slice-known2 .given i .fits }) (c .before .before .before .before .before .before .before .before .if1 .left) _ (c .before .before .before .before .before .before .before .four .ensures .0) (c .before .before .before .before .before .before .if2 .taken) _ (c .before .before .before .before .before .four2 .ensures .0) (c .before .before .before .before .if3 .left) _ (c .before .before .before .four3 .ensures .0) (c .before .before .if4 .left) _ (c .before .four4 .ensures .0) (c .if5 .left)
+
+add-four-4 : tie.Need-add-four-4
+add-four-4 c = search needs
+
+four-requires-5 : tie.Need-four-requires-5
+four-requires-5 c κs = search needs
+
+add-four-5 : tie.Need-add-four-5
+add-four-5 c = search needs
+
+four-requires-6 : tie.Need-four-requires-6
+four-requires-6 c κs = search needs
+
+add-others : tie.Need-add-others
+add-others c = search needs
+
+add-four-6 : tie.Need-add-four-6
+add-four-6 c = search needs
+
+four-requires-7 : tie.Need-four-requires-7
+four-requires-7 c κs = search needs
+
+add-others-2 : tie.Need-add-others-2
+add-others-2 c = search needs
+
+add-if6 : tie.Need-add-if6
+add-if6 c = search needs
+
+mul-at : tie.Need-mul-at
+mul-at c = search needs
+
+mul-all-zero : tie.Need-mul-all-zero
+mul-all-zero c = search needs
+
+add-all-zero : tie.Need-add-all-zero
+add-all-zero c = search needs
+
+sub-all-zero : tie.Need-sub-all-zero
+sub-all-zero c = search needs
+
+part-all-zero-start : tie.Need-part-all-zero-start
+part-all-zero-start c = search needs
+
+part-all-zero-end : tie.Need-part-all-zero-end
+part-all-zero-end c = search needs
+
+all-zero-requires : tie.Need-all-zero-requires
+all-zero-requires c κs = search needs
+
+returns-6 : tie.Need-returns-6
+returns-6 c = run-zero _ _ _ _ (c .before .before .before .before .before .before .before .before .before .if1 .left) (c .before .all-zero .ensures .yes (search needs)) (search needs)
+
+returns-7 : tie.Need-returns-7
+returns-7 c = run-none _ _ _ _ (c .before .before .before .before .before .before .before .before .before .before .before .before .pre .3)
+
+returns-8 : tie.Need-returns-8
+returns-8 c = run-none _ _ _ _ (c .before .before .before .before .before .before .before .before .before .pre .3)
 
 pub run-of-spec : {M : Type 1} → statement M
 run-of-spec =
@@ -40,11 +105,33 @@ run-of-spec =
     (tie.spec
     add-if1
     returns
-    shared-slice-read-if2
-    returns-2
     four-requires
-    returns-3
     add-four
     four-requires-2
+    returns-2
+    add-four-2
+    four-requires-3
+    returns-3
+    add-four-3
+    four-requires-4
     returns-4
-    returns-5)
+    returns-5
+    add-four-4
+    four-requires-5
+    add-four-5
+    four-requires-6
+    add-others
+    add-four-6
+    four-requires-7
+    add-others-2
+    add-if6
+    mul-at
+    mul-all-zero
+    add-all-zero
+    sub-all-zero
+    part-all-zero-start
+    part-all-zero-end
+    all-zero-requires
+    returns-6
+    returns-7
+    returns-8)

@@ -1,8 +1,23 @@
-use Rattle.walks.specs.Judging.{visited-unlike, visited-unfit, visited-body, suits-low}
-use native.Mathlib.Omega.{arith}
+use mathlib.Core.Path.{refl}
+use Rattle.walks.specs.Judging.{Visited, visited-marked, visited-unlike, visited-unfit, visited-body, suits-low}
 use borrow.Author.Needs.{needs}
 use Rattle.walks.proofs.visit.Statement.{statement}
 use Rattle.walks.proofs.visit.Tie as tie
+
+returns : tie.Need-returns
+returns c = Visited.over (search needs)
+
+marks-at-requires : tie.Need-marks-at-requires
+marks-at-requires c κs = search needs
+
+add-mark : tie.Need-add-mark
+add-mark c = search needs
+
+slice-read-if2 : tie.Need-slice-read-if2
+slice-read-if2 c = search needs
+
+returns-2 : tie.Need-returns-2
+returns-2 c = visited-marked _ _ _ _ _ _ _ _ _ _ _ (c .before .before .marks-at .ensures) (c .before .before .before .if1 .left) (c .if2 .taken)
 
 suits-requires : tie.Need-suits-requires
 suits-requires c κs = search needs
@@ -23,7 +38,7 @@ four-requires : tie.Need-four-requires
 four-requires c κs = search needs
 
 kin-requires : tie.Need-kin-requires
-kin-requires c κs = let h = suits-low (record { small = λ i. let h = (c .before .before .before .before .before .before .before .shared-slice-known .given) i in omega arith }) ((c .before .before .before .suits .ensures .yes) (search needs)) in search needs
+kin-requires c κs = (c .before .before .before .before .before .before .before .before .before .before .before .before .pre .2, c .before .before .before .before .before .before .before .before .before .before .before .before .pre .3, suits-low (record { small = λ i. c .before .before .before .before .before .before .before .before .before .before .before .shared-slice-known .given i .fits }) (c .before .before .before .suits .ensures .yes (c .before .before .if3 .taken)), search needs)
 
 enum-known-body : tie.Need-enum-known-body
 enum-known-body c = search needs
@@ -31,25 +46,33 @@ enum-known-body c = search needs
 enum-told : tie.Need-enum-told
 enum-told c = search needs
 
-returns : tie.Need-returns
-returns c = visited-unfit _ _ _ _ _ _ _ _ _ _ _ (record { small = λ i. let h = (c .before .before .before .before .before .before .before .before .before .before .shared-slice-known .given) i in omega arith }) (c .before .before .before .before .two .ensures .0) (c .before .before .before .four .ensures .0) _ (c .before .before .kin .ensures) (c .enum-told .given .1)
+returns-3 : tie.Need-returns-3
+returns-3 c = visited-unfit _ _ _ _ _ _ _ _ _ _ _ (c .before .before .before .before .before .before .before .before .before .marks-at .ensures) (c .before .before .before .before .before .before .before .before .before .before .if1 .left) _ _ (record { small = λ i. c .before .before .before .before .before .before .before .before .before .before .before .before .before .before .shared-slice-known .given i .fits }) (c .before .before .before .before .two .ensures .0) (c .before .before .before .four .ensures .0) _ (c .before .before .kin .ensures) (c .enum-told .given .1)
 
 put-node-requires : tie.Need-put-node-requires
-put-node-requires c κs = let h = suits-low (record { small = λ i. let h = (c .before .before .before .before .before .before .before .before .before .before .before .before .shared-slice-known .given) i in omega arith }) ((c .before .before .before .before .before .before .before .before .suits .ensures .yes) (search needs)) in search needs
+put-node-requires c κs = let h = suits-low (record { small = λ i. c .before .before .before .before .before .before .before .before .before .before .before .before .before .before .before .before .shared-slice-known .given i .fits }) (c .before .before .before .before .before .before .before .before .suits .ensures .yes (c .before .before .before .before .before .before .before .if3 .taken)) in search needs
+
+slice-write-w : tie.Need-slice-write-w
+slice-write-w c = search needs
 
 same-length : tie.Need-same-length
 same-length c = search needs
 
-returns-2 : tie.Need-returns-2
-returns-2 c = visited-body _ _ _ _ _ _ _ _ _ _ _ (record { small = λ i. let h = (c .before .before .before .before .before .before .before .before .before .before .before .before .before .before .before .shared-slice-known .given) i in omega arith }) (c .before .before .before .before .before .before .before .before .before .two .ensures .0) (c .before .before .before .before .before .before .before .before .four .ensures .0) _ (c .before .before .before .before .before .before .before .kin .ensures) _ (c .before .before .before .before .before .before .before .before .before .before .before .suits .ensures) (search needs) _ (c .before .before .before .before .before .body .given .1) (c .before .before .before .before .before .before .before .before .four .ensures .1) _ (c .before .before .put-node .ensures)
+returns-4 : tie.Need-returns-4
+returns-4 c = visited-body _ _ _ _ _ _ _ _ _ _ _ (c .before .before .before .before .before .before .before .before .before .before .before .before .before .before .marks-at .ensures) (c .before .before .before .before .before .before .before .before .before .before .before .before .before .before .before .if1 .left) _ _ (record { small = λ i. c .before .before .before .before .before .before .before .before .before .before .before .before .before .before .before .before .before .before .before .shared-slice-known .given i .fits }) (c .before .before .before .before .before .before .before .before .before .two .ensures .0) (c .before .before .before .before .before .before .before .before .four .ensures .0) _ (c .before .before .before .before .before .before .before .kin .ensures) (c .before .before .before .before .before .before .before .before .before .before .before .before .if2 .left) _ (c .before .before .before .before .before .before .before .before .before .before .before .suits .ensures) (c .before .before .before .before .before .before .before .before .before .before .if3 .taken) _ (c .before .before .before .before .before .body .given .1) (c .before .before .before .before .before .before .before .before .four .ensures .1) _ _ (c .before .before .put-node .ensures) refl
 
-returns-3 : tie.Need-returns-3
-returns-3 c = visited-unlike _ _ _ _ _ _ _ _ _ _ (c .before .suits .ensures) (search needs)
+returns-5 : tie.Need-returns-5
+returns-5 c = visited-unlike _ _ _ _ _ _ _ _ _ _ _ (c .before .suits .ensures) (c .if3 .left)
 
 pub visit-spec : {M : Type 1} → statement M
 visit-spec =
     tie.close
     (tie.spec
+    returns
+    marks-at-requires
+    add-mark
+    slice-read-if2
+    returns-2
     suits-requires
     mul-at
     add-two
@@ -59,8 +82,9 @@ visit-spec =
     kin-requires
     enum-known-body
     enum-told
-    returns
+    returns-3
     put-node-requires
+    slice-write-w
     same-length
-    returns-2
-    returns-3)
+    returns-4
+    returns-5)
