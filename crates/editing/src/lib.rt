@@ -20,12 +20,6 @@ ghost use Rattle.editing.specs.Edits.{editCounts, Edits};
 
 pub const WORK_AREAS: usize = 3;
 
-// What the walk of an area needs: a list of nodes and frames; and a mark for each slot.
-pub const WALK_SIZE: usize = trees::NODE_SIZE * trees::MAX_SLOTS
-    + walks::FRAME_SIZE * (trees::MAX_SLOTS + 1);
-
-pub const MARKS_SIZE: usize = trees::MAX_SLOTS + 1;
-
 // Reply 0, where the old tree has o nodes, and the new one so many, of which so many kept their slots.
 fn accepted(o: usize, total: usize, kept: usize) -> Reply
     requires { ⌜ (kept ≤ o) × (kept ≤ total) × (o ≤ maxSlots) × (total ≤ maxSlots) ⌝ }
@@ -147,8 +141,7 @@ fn edit_walked(
     requires { ⌜ Prepared (grammarIn (now rows) t n start count) × Tables (grammarIn (now rows) t n start count) (now tables) × (1 ≤ slots) × (slots ≤ maxSlots) × (length (now tree) ≡ areaSize slots) × (workAreas * length (now tree) ≤ length (now work)) ⌝ }
     ensures { λ r. ⌜ Edits (now (tables .entry)) (now (tokens .entry)) place removed (length (now (work .entry))) (now (tree .entry)) (grammarIn (now (rows .entry)) t n start count) r (now (tree .exit)) ⌝ }
 {
-    let mut marks = [0u8; MARKS_SIZE];
-    match walks::read_tree(tree, slots, rows, t, n, start, count, work, &mut marks) {
+    match walks::read_tree(tree, slots, rows, t, n, start, count, work) {
         Walked::Tree(o) => edit_tokens(
             tree,
             slots,
@@ -181,9 +174,8 @@ fn is_tree(
     requires { ⌜ (1 ≤ slots) × (slots ≤ maxSlots) × (length (now tree) ≡ areaSize slots) ⌝ }
     ensures { λ r. ⌜ Tells (Valid (grammarIn (now (rows .entry)) t n start count) slots (now (tree .entry))) r ⌝ }
 {
-    let mut work = [0u8; WALK_SIZE];
-    let mut marks = [0u8; MARKS_SIZE];
-    match walks::read_tree(tree, slots, rows, t, n, start, count, &mut work, &mut marks) {
+    let mut work = [0u8; walks::WALK_SIZE];
+    match walks::read_tree(tree, slots, rows, t, n, start, count, &mut work) {
         Walked::Tree(_) => true,
         Walked::NoTree => false,
     }

@@ -534,9 +534,8 @@ fn read_fit(
     if slots == 0 {
         return Reply::Refused(Reason::WrongTree);
     }
-    let mut work = [0u8; editing::WALK_SIZE];
-    let mut marks = [0u8; editing::MARKS_SIZE];
-    match walks::read_tree(tree, slots, rows, t, n, start, count, &mut work, &mut marks) {
+    let mut work = [0u8; walks::WALK_SIZE];
+    match walks::read_tree(tree, slots, rows, t, n, start, count, &mut work) {
         Walked::Tree(o) => give_back(rows, t, n, start, count, slots, tree, &mut work, o, output),
         Walked::NoTree => Reply::Refused(Reason::WrongTree),
     }

@@ -15,7 +15,7 @@ use Rattle.base.specs.Bytes.{byteAt, get16, get32, leBytes}
 use Rattle.base.specs.Blocks.{zeros, length-zeros, byte-zeros}
 use Rattle.grammar.specs.Grammar.{Grammar}
 use Rattle.grammar.specs.Forest.{size}
-use Rattle.trees.specs.Area.{slotSize, maxSlots, areaSize, headerBytes, slotAt, Valid}
+use Rattle.trees.specs.Area.{tokensPlace, slotSize, maxSlots, areaSize, headerBytes, slotAt, Valid}
 use Rattle.trees.specs.Nodes.{preorder}
 use Rattle.trees.specs.Coded.{nodesFrom, length-nodes}
 use Rattle.trees.specs.Slots.{slot-byte, slot-is}
@@ -26,7 +26,7 @@ use Rattle.walks.specs.declared.Course.the-variants.{Through, Astray}
 use Rattle.walks.specs.Slots.{Known, sixteen}
 use Rattle.walks.specs.Judging.{below}
 use Rattle.walks.specs.Going.{going-end, going-one}
-use Rattle.walks.specs.Reading.{leavesOf, leaves-few, Free, found-valid, valid-few, valid-found, size-preorder}
+use Rattle.walks.specs.Reading.{leafCount, leaves-few, Free, found-valid, valid-few, valid-found, size-preorder}
 use Rattle.walks.specs.Stacked.{marksIn}
 use Rattle.walks.specs.Walking.{gram, Ended, Wandered}
 
@@ -52,12 +52,12 @@ module _ (b : List ℕ) (used tokens : ℕ) where
   unfolding headerBytes leBytes
   heads-used v e l n = tells-no (λ h. n (omega (arith, e, l, heads-byte h 4 (omega arith), heads-byte h 5 (omega arith))))
 
-  pub heads-tokens : (v : ℕ) → v ≡ get16 b 6 → tokens < 65536 → (v ≡ tokens → ⊥) → Tells (Heads b used tokens) false
+  pub heads-tokens : (v : ℕ) → v ≡ get16 b tokensPlace → tokens < 65536 → (v ≡ tokens → ⊥) → Tells (Heads b used tokens) false
   unfolding headerBytes leBytes
   heads-tokens v e l n = tells-no (λ h. n (omega (arith, e, l, heads-byte h 6 (omega arith), heads-byte h 7 (omega arith))))
 
   -- the last eight bytes decide
-  pub heads-told : (u v : ℕ) (r : Bool) → Known b → slotSize ≤ length b → byteAt b 0 ≡ 0x54 → byteAt b 1 ≡ 0x52 → u ≡ get16 b 4 → u ≡ used → v ≡ get16 b 6 → v ≡ tokens
+  pub heads-told : (u v : ℕ) (r : Bool) → Known b → slotSize ≤ length b → byteAt b 0 ≡ 0x54 → byteAt b 1 ≡ 0x52 → u ≡ get16 b 4 → u ≡ used → v ≡ get16 b tokensPlace → v ≡ tokens
       → Tells (take 8 (drop 8 b) ≡ zeros (length (take 8 (drop 8 b)))) r → Tells (Heads b used tokens) r
   unfolding headerBytes leBytes zeros
   heads-told u v r k l a a' e e' o o' h = record { yes = λ t. good (h .yes t); no = λ f y. h .no f (bad y) }
@@ -73,7 +73,7 @@ module _ (b : List ℕ) (used tokens : ℕ) where
           let y : (i : ℕ) → i < 8 → byteAt b (8 + i) ≡ 0 = λ i w. sym (part i w) ∙ ap (λ (x : List ℕ). byteAt x i) z ∙ byte-zeros (length (take 8 (drop 8 b))) i in
           let c : List ℕ = headerBytes (get16 b 2) used tokens in
           let g : used ≡ get16 b 4 = sym e' ∙ e in
-          let g' : tokens ≡ get16 b 6 = sym o' ∙ o in
+          let g' : tokens ≡ get16 b tokensPlace = sym o' ∙ o in
           record {
             is = slot-is b c 0 l refl (sixteen (λ i. byteAt b (slotSize * 0 + i) ≡ byteAt c i) a a'
                 (omega (arith, k .small 2)) (omega (arith, k .small 2, k .small 3)) (omega (arith, g, k .small 4)) (omega (arith, g, k .small 4, k .small 5))
@@ -239,7 +239,7 @@ module _ (rows : List ℕ) (t n start count S : ℕ) (b w : List ℕ) where
     pub reads-header : (Heads b i leaves → ⊥) → Reads G· S b w NoTree
     reads-header k =
         Reads.none (λ v. let q = same v in
-        let o : slotAt b 0 ≡ headerBytes (get16 b 2) (length (nodesFrom w i 0)) (leavesOf (nodesFrom w i 0)) = rw q at (valid-found v .header) in
+        let o : slotAt b 0 ≡ headerBytes (get16 b 2) (length (nodesFrom w i 0)) (leafCount (nodesFrom w i 0)) = rw q at (valid-found v .header) in
         k (record { is = rw (← length-nodes w i 0, ended .counted) o }))
 
     pub reads-spoilt : (m : List ℕ) → m ≡ marksIn S w → (ClearTo b m (S + 1) → ⊥) → Reads G· S b w NoTree
@@ -252,7 +252,7 @@ module _ (rows : List ℕ) (t n start count S : ℕ) (b w : List ℕ) where
     reads-tree o few long hd m e h =
         let cl : ClearTo b (marksIn S w) (S + 1) = rw e at h in
         let es = nodesFrom w i 0 in
-        let q : slotAt b 0 ≡ headerBytes (get16 b 2) (length (nodesFrom w i 0)) (leavesOf (nodesFrom w i 0)) = rw (length-nodes w i 0, ← ended .counted) (hd .is) in
+        let q : slotAt b 0 ≡ headerBytes (get16 b 2) (length (nodesFrom w i 0)) (leafCount (nodesFrom w i 0)) = rw (length-nodes w i 0, ← ended .counted) (hd .is) in
         let f : Free S b (nodesFrom w i 0) = record { zero = λ x a c y. cl .each x a (omega arith) .zero (ended .marked .free x a y) } in
         let v = found-valid o few long (record { walks = going-end es (ended .going); once = ended .marked .once; header = q; free = f }) in
         Reads.tree (v .valid) (v .nodes) (sym (length-nodes w i 0) ∙ ap length (sym (v .nodes)) ∙ size-preorder (v .valid .tree))

@@ -10,23 +10,19 @@ use Rattle.base.specs.Blocks.{zeros}
 use Rattle.grammar.specs.Each.{Each}
 use Rattle.grammar.specs.Grammar.{Grammar}
 use Rattle.grammar.specs.Forest.{Forest, size, yield, Derives}
-use Rattle.trees.specs.Area.{slotSize, maxSlots, areaSize, headerBytes, slotAt, top, slots, Distinct, Linked, Area, Valid}
+use Rattle.trees.specs.Area.{tokensPlace, slotSize, maxSlots, areaSize, headerBytes, slotAt, top, slots, Distinct, Linked, Area, Valid}
 use Rattle.trees.specs.Members.{pigeon}
-use Rattle.trees.specs.Nodes.{Node, preorder}
+use Rattle.trees.specs.Nodes.{Node, preorder, leafOf, no-leaf}
 use Rattle.trees.specs.Spread.{slotsOf, slots-append, length-slots}
 use Rattle.trees.specs.Slots.{slot-byte}
 use Rattle.walks.specs.Frames.{Frame, frame, Within, Walks, Grown, walks-grown, linked-walks, linked-one, rule-positive, top-small}
 
--- a leaf counts 1
-abbrev pub leafOf : ℕ → ℕ
-leafOf zero = 1
-leafOf (suc p) = 0
+-- how many leaves there are
+abbrev pub leafCount : List Node → ℕ
+leafCount [] = 0
+leafCount (e ∷ es) = leafOf (e .production) + leafCount es
 
-abbrev pub leavesOf : List Node → ℕ
-leavesOf [] = 0
-leavesOf (e ∷ es) = leafOf (e .production) + leavesOf es
-
-pub leaves-append : (es fs : List Node) → leavesOf (es ++ fs) ≡ leavesOf es + leavesOf fs
+pub leaves-append : (es fs : List Node) → leafCount (es ++ fs) ≡ leafCount es + leafCount fs
 leaves-append [] fs = omega arith
 leaves-append (e ∷ es) fs = omega (arith, leaves-append es fs)
 
@@ -42,17 +38,13 @@ slots-preorder Forest.nil = refl
 slots-preorder (Forest.leaf s a g r) = ap (λ (l : List ℕ). s ∷ l) (slots-preorder r)
 slots-preorder (Forest.node s M p k r) = rw (slots-append (preorder k) (preorder r), slots-preorder k, slots-preorder r)
 
-pub leaf-none : (p : ℕ) → (p ≡ 0 → ⊥) → leafOf p ≡ 0
-leaf-none zero n = absurd (n refl)
-leaf-none (suc p) n = refl
-
-leaves-preorder : {G : Grammar} {xs : List ℕ} {F : Forest} → Derives G xs F → leavesOf (preorder F) ≡ length (yield F)
+leaves-preorder : {G : Grammar} {xs : List ℕ} {F : Forest} → Derives G xs F → leafCount (preorder F) ≡ length (yield F)
 leaves-preorder Derives.nil = refl
 leaves-preorder (Derives.leaf t d) = omega (arith, leaves-preorder d)
 leaves-preorder (Derives.node {p = p} {k = k} {r = r} t dk d) =
-    omega (arith, leaf-none p (rule-positive t), leaves-append (preorder k) (preorder r), length-append (yield k) (yield r), leaves-preorder dk, leaves-preorder d)
+    omega (arith, no-leaf p (rule-positive t), leaves-append (preorder k) (preorder r), length-append (yield k) (yield r), leaves-preorder dk, leaves-preorder d)
 
-pub leaves-few : (es : List Node) → leavesOf es ≤ length es
+pub leaves-few : (es : List Node) → leafCount es ≤ length es
 leaves-few [] = omega arith
 leaves-few (e ∷ es) = omega (arith, few (e .production), leaves-few es)
   where
@@ -66,7 +58,7 @@ leaves-few (e ∷ es) = omega (arith, few (e .production), leaves-few es)
 pub record Header (b : List ℕ) (r n k : ℕ) : Type 0 where
   pub root : get16 b 2 ≡ r
   pub used : get16 b 4 ≡ n
-  pub tokens : get16 b 6 ≡ k
+  pub tokens : get16 b tokensPlace ≡ k
 
 pub header-says : (b : List ℕ) {root used tokens : ℕ} → root < 65536 → used < 65536 → tokens < 65536 → slotAt b 0 ≡ headerBytes root used tokens → Header b root used tokens
 unfolding headerBytes leBytes
@@ -91,7 +83,7 @@ pub record Free (S : ℕ) (b : List ℕ) (es : List Node) : Type 0 where
 pub record Found (G : Grammar) (S : ℕ) (b : List ℕ) (es : List Node) : Type 0 where
   pub walks : Walks G S b (rootFrame G b ∷ []) es
   pub once : Distinct (slotsOf es)
-  pub header : slotAt b 0 ≡ headerBytes (get16 b 2) (length es) (leavesOf es)
+  pub header : slotAt b 0 ≡ headerBytes (get16 b 2) (length es) (leafCount es)
   pub free : Free S b es
 
 -- a valid tree with these nodes
@@ -107,7 +99,7 @@ module _ {G : Grammar} {S : ℕ} {b : List ℕ} where
       area F k d t w e =
           let q : slotsOf es ≡ slots F = ap slotsOf e ∙ slots-preorder F in
           let n : length es ≡ size F = ap length e ∙ size-preorder F in
-          let y : leavesOf es ≡ length (yield F) = ap leavesOf e ∙ leaves-preorder d in
+          let y : leafCount es ≡ length (yield F) = ap leafCount e ∙ leaves-preorder d in
           record {
             long = l;
             header = rw (t, ← n, ← y) (h .header);

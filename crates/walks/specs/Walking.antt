@@ -12,7 +12,7 @@ use Rattle.grammar.specs.Each.{Each, each-join, each-head}
 use Rattle.grammar.specs.Grammar.{Grammar}
 use Rattle.grammar.specs.Rows.{grammarIn}
 use Rattle.trees.specs.Area.{slotSize, maxSlots, areaSize}
-use Rattle.trees.specs.Nodes.{Node}
+use Rattle.trees.specs.Nodes.{Node, leafOf}
 use Rattle.trees.specs.Coded.{nodeSize, nodesFrom, length-nodes}
 use Rattle.trees.specs.Spread.{slotsOf, slots-append}
 use Rattle.trees.specs.Listing.{nodeOf, nodes-kept, put-last}
@@ -24,7 +24,7 @@ use Rattle.walks.specs.Slots.{symbolIn, productionIn, firstIn, nextIn, t
 use Rattle.walks.specs.Frames.{Frame, frame, Within}
 use Rattle.walks.specs.Marks.{Marked, marked-none, marked-more, marked-room}
 use Rattle.walks.specs.Going.{Waits, Kept, Turn, Going, Lost, going-start, going-turn, lost-stuck, lost-over, lost-marked}
-use Rattle.walks.specs.Reading.{leafOf, leavesOf, leaves-append, leaves-few, rootFrame}
+use Rattle.walks.specs.Reading.{leafCount, leaves-append, leaves-few, rootFrame}
 use Rattle.walks.specs.Digits.{Digits, Split, digits-none, digits-split, digits-some}
 use Rattle.walks.specs.Judging.{Meets, Visited}
 use Rattle.walks.specs.Stacked.{placeOf, marksAt, workSize, restAt, Held, held-same, Framed, marksIn, length-marks, mark-at, marks-set, marks-same}
@@ -46,7 +46,7 @@ module _ (rows : List ℕ) (t n start count S : ℕ) (b : List ℕ) where
     going : Going gram S b origin (nodesFrom w i 0) hs
     marked : Marked (marksIn S w) (nodesFrom w i 0)
     within : Each (Within S) (slotsOf (nodesFrom w i 0))
-    counted : leaves ≡ leavesOf (nodesFrom w i 0)
+    counted : leaves ≡ leafCount (nodesFrom w i 0)
 
   -- slot s is next, where x is expected below the slot `par`, with the symbols of the number `rest` behind it; the frames that wait end at `top`
   pub record Walking (w : List ℕ) (top i leaves s par x rest : ℕ) : Type 0 where
@@ -64,7 +64,7 @@ module _ (rows : List ℕ) (t n start count S : ℕ) (b : List ℕ) where
   pub record Ended (w : List ℕ) (i leaves : ℕ) : Type 0 where
     pub going : Going gram S b origin (nodesFrom w i 0) []
     pub marked : Marked (marksIn S w) (nodesFrom w i 0)
-    pub counted : leaves ≡ leavesOf (nodesFrom w i 0)
+    pub counted : leaves ≡ leafCount (nodesFrom w i 0)
 
   -- the walk ended with so many nodes and leaves, or there is none
   pub data Wandered (w : List ℕ) : Course → Type 0 where

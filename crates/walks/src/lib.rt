@@ -15,7 +15,7 @@ ghost use Rattle.trees.specs.Area.{slotSize, maxSlots, areaSize};
 ghost use Rattle.walks.specs.Digits.{Digits};
 ghost use Rattle.walks.specs.Words.{wordCount, Worded};
 ghost use Rattle.walks.specs.Slots.{productionIn, firstIn, nextIn};
-ghost use Rattle.walks.specs.Reading.{leafOf};
+ghost use Rattle.trees.specs.Nodes.{leafOf};
 ghost use Rattle.walks.specs.Judging.{Suits, Kin, Visited};
 ghost use Rattle.walks.specs.Stacked.{frameSize, marksAt, workSize, get64, Long, Framed, marksIn};
 ghost use Rattle.walks.specs.Walking.{Wandered};
@@ -351,7 +351,7 @@ fn heads(area: &[u8], used: usize, tokens: usize) -> bool
     if base::two(area, 4) != used {
         return false;
     }
-    if base::two(area, 6) != tokens {
+    if base::two(area, trees::TOKENS_PLACE) != tokens {
         return false;
     }
     base::all_zero(&area[8..16])

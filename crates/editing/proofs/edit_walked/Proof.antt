@@ -4,9 +4,6 @@ use Rattle.editing.proofs.edit_walked.Tie as tie
 use Rattle.altering.specs.Treed.{treed, untreed}
 use Rattle.editing.specs.Editing.{edits-room, edits-none}
 
-slice-aggregate-read-tree : tie.Need-slice-aggregate-read-tree
-slice-aggregate-read-tree c = search needs
-
 read-tree-requires : tie.Need-read-tree-requires
 read-tree-requires c κs = search needs
 
@@ -14,7 +11,7 @@ enum-known-o : tie.Need-enum-known-o
 enum-known-o c = search needs
 
 edit-tokens-requires : tie.Need-edit-tokens-requires
-edit-tokens-requires c κs = (c .before .before .before .before .before .before .before .before .before .before .before .before .before .before .before .before .before .pre .0, c .before .before .before .before .before .before .before .before .before .before .before .before .before .before .before .before .before .pre .1, treed _ (c .before .before .before .before .before .before .before .before .read-tree .ensures) (search needs), search needs)
+edit-tokens-requires c κs = (c .before .before .before .before .before .before .before .before .before .before .before .before .before .before .before .pre .0, c .before .before .before .before .before .before .before .before .before .before .before .before .before .before .before .pre .1, treed _ (c .before .before .before .before .before .before .before .read-tree .ensures) (search needs), search needs)
 
 enum-told : tie.Need-enum-told
 enum-told c = search needs
@@ -35,13 +32,12 @@ same-length-4 : tie.Need-same-length-4
 same-length-4 c = search needs
 
 returns-2 : tie.Need-returns-2
-returns-2 c = edits-none _ _ _ _ _ _ _ _ _ _ _ (c .before .before .before .before .before .before .before .before .before .before .before .before .before .before .pre .1) _ (c .before .before .before .before .before .before .before .before .before .before .before .before .before .before .pre .4) (untreed (c .before .before .before .before .before .read-tree .ensures) (search needs))
+returns-2 c = edits-none _ _ _ _ _ _ _ _ _ _ _ (c .before .before .before .before .before .before .before .before .before .before .before .before .pre .1) _ (c .before .before .before .before .before .before .before .before .before .before .before .before .pre .4) (untreed (c .before .before .before .before .read-tree .ensures) (search needs))
 
 pub edit-walked-spec : {M : Type 1} → statement M
 edit-walked-spec =
     tie.close
     (tie.spec
-    slice-aggregate-read-tree
     read-tree-requires
     enum-known-o
     edit-tokens-requires

@@ -6,9 +6,6 @@ use Rattle.editing.specs.Editing.{tells-tree, tells-none}
 slice-aggregate-read-tree : tie.Need-slice-aggregate-read-tree
 slice-aggregate-read-tree c = search needs
 
-slice-aggregate-read-tree-2 : tie.Need-slice-aggregate-read-tree-2
-slice-aggregate-read-tree-2 c = search needs
-
 read-tree-requires : tie.Need-read-tree-requires
 read-tree-requires c κs = search needs
 
@@ -29,7 +26,6 @@ is-tree-spec =
     tie.close
     (tie.spec
     slice-aggregate-read-tree
-    slice-aggregate-read-tree-2
     read-tree-requires
     enum-told
     enum-told-2

@@ -13,11 +13,8 @@ returns c = returns-wrong _ _ _ _ _ (search needs) (c .before .slots-of .ensures
 slice-aggregate-read-tree : tie.Need-slice-aggregate-read-tree
 slice-aggregate-read-tree c = search needs
 
-slice-aggregate-read-tree-2 : tie.Need-slice-aggregate-read-tree-2
-slice-aggregate-read-tree-2 c = search needs
-
 read-tree-requires : tie.Need-read-tree-requires
-read-tree-requires c κs = let z = c .before .before .before .slots-of .ensures .right (c .before .before .if1 .left) in (z .0, z .1, search needs, search needs, search needs)
+read-tree-requires c κs = let z = c .before .before .slots-of .ensures .right (c .before .if1 .left) in (z .0, z .1, search needs, search needs)
 
 enum-known-o : tie.Need-enum-known-o
 enum-known-o c = search needs
@@ -26,7 +23,7 @@ slice-aggregate-give-back : tie.Need-slice-aggregate-give-back
 slice-aggregate-give-back c = search needs
 
 give-back-requires : tie.Need-give-back-requires
-give-back-requires c κs = let z = c .before .before .before .before .before .before .before .before .before .before .before .slots-of .ensures .right (c .before .before .before .before .before .before .before .before .before .before .if1 .left) .1 in (treed _ (c .before .before .before .before .before .before .before .read-tree .ensures) (search needs), search needs)
+give-back-requires c κs = let z = c .before .before .before .before .before .before .before .before .before .slots-of .ensures .right (c .before .before .before .before .before .before .before .before .if1 .left) .1 in (treed _ (c .before .before .before .before .before .before .read-tree .ensures) (search needs), search needs)
 
 enum-told : tie.Need-enum-told
 enum-told c = search needs
@@ -38,7 +35,7 @@ returns-2 : tie.Need-returns-2
 returns-2 c = c .before .before .before .give-back .ensures
 
 returns-3 : tie.Need-returns-3
-returns-3 c = let z = c .before .before .before .before .before .before .before .before .slots-of .ensures .right (c .before .before .before .before .before .before .before .if1 .left) .2 in returns-none _ _ _ _ (search needs) (untreed (c .before .before .before .before .read-tree .ensures) (search needs))
+returns-3 c = let z = c .before .before .before .before .before .before .slots-of .ensures .right (c .before .before .before .before .before .if1 .left) .2 in returns-none _ _ _ _ (search needs) (untreed (c .before .before .before .read-tree .ensures) (search needs))
 
 pub read-fit-spec : {M : Type 1} → statement M
 read-fit-spec =
@@ -47,7 +44,6 @@ read-fit-spec =
     slots-of-requires
     returns
     slice-aggregate-read-tree
-    slice-aggregate-read-tree-2
     read-tree-requires
     enum-known-o
     slice-aggregate-give-back

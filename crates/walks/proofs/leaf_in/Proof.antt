@@ -1,5 +1,5 @@
 use mathlib.Core.Path.{sym, ap}
-use Rattle.walks.specs.Reading.{leafOf, leaf-none}
+use Rattle.trees.specs.Nodes.{leafOf, no-leaf}
 use borrow.Author.Needs.{needs}
 use Rattle.walks.proofs.leaf_in.Statement.{statement}
 use Rattle.walks.proofs.leaf_in.Tie as tie
@@ -17,7 +17,7 @@ returns : tie.Need-returns
 returns c = (sym (ap leafOf (c .if1 .taken)), search needs)
 
 returns-2 : tie.Need-returns-2
-returns-2 c = (sym (leaf-none _ (c .if1 .left)), search needs)
+returns-2 c = (sym (no-leaf _ (c .if1 .left)), search needs)
 
 pub leaf-in-spec : {M : Type 1} → statement M
 leaf-in-spec = tie.close (tie.spec mul-if1 add-if1 shared-slice-read-if1 returns returns-2)
