@@ -2,17 +2,17 @@
 use Prim.Native.Nat.{ℕ, zero, suc, _+_, _-_, _≤_, _<_}
 use mathlib.Core.Path.{_≡_, refl, sym, ap, _∙_}
 use mathlib.Core.Logic.{by-cases}
-use mathlib.Core.List.{List, _∷_}
-use lib.ListN.{length, getD, set, take}
-use lib.Seq.{take-all, getD-set-same, getD-set-other}
+use mathlib.Core.List.{List, [], _∷_, _++_, append-assoc}
+use lib.ListN.{length, getD, set, take, length-append}
+use lib.Seq.{take-all, take-at, getD-set-same, getD-set-other}
 use native.Mathlib.Decide.{ℕ-discrete, decLt}
 use native.Mathlib.Omega.{arith}
-use Rattle.grammar.specs.Forest.{Forest, yield}
-use Rattle.trees.specs.Nodes.{Node as Entry, leavesOf, leaves-yield}
+use Rattle.grammar.specs.Forest.{Token, Forest, size, yield}
+use Rattle.trees.specs.Nodes.{Node as Entry, innerNode, leafNode, preorder, leavesOf, Formed, leaves-append, leaves-yield}
 use Rattle.trees.specs.Coded.{nodeAt, nodesFrom, length-nodes}
-use Rattle.edits.specs.Keeping.{Edit, Kept, Node}
-use Rattle.edits.specs.Places.{at-number, at-leaves}
-use Rattle.matching.specs.Measure.{treeIn, Built, built-size}
+use Rattle.edits.specs.Keeping.{Edit, Kept, own, beside, Node}
+use Rattle.edits.specs.Places.{treeSize, at-number, Numbered, at-node, at-listed, at-leaves}
+use Rattle.matching.specs.Measure.{treeIn, Built, built-size, at-formed, Measured}
 
 -- ---- the leaves before a node
 
@@ -68,9 +68,65 @@ first-token rows w n base b {a} {t = t} y h e =
     let k : t ≡ length (leavesOf (take (a - 1) (nodesFrom w n base))) = at-leaves (b .formed) h ∙ ap (λ (us : List Entry). length (leavesOf (take (a - 1) us))) (b .listed) in
     omega (arith, x, k, ap (leavesTo w) v)
 
+-- the nodes of a forest's first tree stand first, and its tokens are their leaves
+record Headed (f : Forest) : Type 0 where
+  nodes : List Entry
+  is : preorder f ≡ nodes ++ preorder (beside f)
+  long : length nodes ≡ treeSize f
+  leaves : length (leavesOf nodes) ≡ own f
+
+size-preorder : (f : Forest) → length (preorder f) ≡ size f
+size-preorder Forest.nil = refl
+size-preorder (Forest.leaf s x g r) = ap suc (size-preorder r)
+size-preorder (Forest.node s M p k r) = omega (arith, length-append (preorder k) (preorder r), size-preorder k, size-preorder r)
+
+headed : {ar : ℕ → ℕ} {f : Forest} → Formed ar f → Headed f
+headed Formed.nil = record { nodes = []; is = refl; long = refl; leaves = refl }
+headed (Formed.leaf {s = s} {a = a} {g = g} h) = record { nodes = leafNode s a g ∷ []; is = refl; long = refl; leaves = refl }
+headed (Formed.node {s = s} {M = M} {p = p} {k = k} e h j) =
+    record { nodes = innerNode s M (suc p) ∷ preorder k; is = refl; long = ap suc (size-preorder k); leaves = ap (λ (u : List Token). length u) (leaves-yield h) }
+
+-- the tokens up to the end of a node's subtree are counted by the leaves before that end
+last-token : (rows w : List ℕ) (n base : ℕ) → Built rows w n base → {a q m t : ℕ} {f : Forest} (y : ℕ) → Node (treeIn rows w n base) a q m t f → suc y ≡ base + a
+    → leavesTo w base + (t + own f) ≡ leavesTo w (y + treeSize f)
+last-token rows w n base b {a} {t = t} {f = f} y h e =
+    let o = at-listed (b .formed) h in
+    let d = headed (at-formed (b .formed) h) in
+    let us : List Entry = o .before ++ d .nodes in
+    let rest : List Entry = preorder (beside f) ++ o .behind in
+    let i = a - 1 + treeSize f in
+    let all : nodesFrom w n base ≡ us ++ rest =
+    sym (b .listed) ∙ o .is ∙ ap (λ (u : List Entry). o .before ++ (u ++ o .behind)) (d .is) ∙ ap (λ (u : List Entry). o .before ++ u) (append-assoc (d .nodes) (preorder (beside f)) (o .behind))
+    ∙ sym (append-assoc (o .before) (d .nodes) rest) in
+    let long : length us ≡ i = omega (arith, length-append (o .before) (d .nodes), o .number, d .long) in
+    let few : i ≤ n = omega (arith, long, ap (λ (u : List Entry). length u) all, length-append us rest, length-nodes w n base) in
+    let x = leaves-from w n base i few in
+    let v : base + i ≡ y + treeSize f = omega (arith, at-number h .0) in
+    let k : take i (nodesFrom w n base) ≡ us = ap (take i) all ∙ take-at us rest i long in
+    let c = ap (λ (u : List Entry). length (leavesOf u)) k in
+    let c' = ap (λ (u : List Token). length u) (leaves-append (o .before) (d .nodes)) in
+    let c'' = length-append (leavesOf (o .before)) (leavesOf (d .nodes)) in
+    omega (arith, x, c, c', c'', o .token, d .leaves, ap (leavesTo w) v)
+
 -- the tokens of a tree are its leaves
 pub all-tokens : (rows w : List ℕ) (n : ℕ) → Built rows w n 0 → length (yield (treeIn rows w n 0)) ≡ leavesTo w n
 all-tokens rows w n b = sym (ap length (leaves-yield (b .formed))) ∙ ap (λ (us : List Entry). length (leavesOf us)) (b .listed) ∙ all-leaves w n
+
+-- behind the subtree of a node lo..hi its tokens are counted, too
+pub record Leaved (w ends widths : List ℕ) (lo hi : ℕ) : Type 0 where
+  pub each : (y : ℕ) → lo ≤ y → y < hi → leavesTo w y + getD widths y 0 ≡ leavesTo w (getD ends y 0)
+
+pub leaved : (rows w : List ℕ) (n base : ℕ) {ends widths : List ℕ} → Built rows w n base → Measured (treeIn rows w n base) base 0 ends widths → Leaved w ends widths base (base + n)
+leaved rows w n base b g =
+    record {
+      each = λ y l k.
+          let o : Numbered 1 0 0 0 (treeIn rows w n base) (suc y - base) = at-node (treeIn rows w n base) (suc y - base) (omega arith) (omega (arith, built-size rows w n base)) in
+          let at : suc y ≡ base + (suc y - base) = omega arith in
+          let v = first-token rows w n base b y (o .node) at in
+          let x = last-token rows w n base b y (o .node) at in
+          let z = ap (leavesTo w) (g .end y (o .node) (omega arith) at) in
+          omega (arith, v, x, z, g .width y (o .node) (omega arith) at);
+    }
 
 -- ---- where the nodes of each token begin
 

@@ -34,8 +34,11 @@ few-set {n} {ms} i v h l k f =
       each = λ z. by-cases (ℕ-discrete z i) (λ e. rw (e, getD-set-same ms i v 0 l) k) (λ e. rw (getD-set-other ms i z v 0 e) (h .each z));
     })
 
-pub few-one : {n v : ℕ} {ms : List ℕ} (i : ℕ) → Few n ms → v ≡ getD ms i 0 → (v ≡ 0 → ⊥) → v - 1 < n
-few-one {v = v} i h e z = by-cases (ℕ-discrete v 0) (λ o. absurd (z o)) (λ o. omega (arith, h .each i, e))
+pub few-set-one : {n : ℕ} {ms ms' : List ℕ} (i v : ℕ) → Few n ms → i < length ms → ms' ≡ set ms i v → v ≡ getD ms' i 0
+few-set-one {ms = ms} i v h l f = rw f (sym (getD-set-same ms i v 0 l))
+
+pub few-entry : {n v : ℕ} {ms : List ℕ} (i : ℕ) → Few n ms → v ≡ getD ms i 0 → v ≤ n
+few-entry i h e = omega (arith, h .each i)
 
 -- ---- one child
 

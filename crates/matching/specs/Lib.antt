@@ -2,6 +2,7 @@
 pub mod Measure
 pub mod Finding
 pub mod Handing
+pub mod Carrying
 pub mod Kids
 pub mod Matching
 pub mod Through

@@ -11,10 +11,11 @@ use Rattle.grammar.specs.Forest.{Forest}
 use Rattle.trees.specs.Nodes.{trees, back}
 use Rattle.trees.specs.Coded.{nodeAt}
 use Rattle.edits.specs.Keeping.{Edit, symbol, own, below, Node, Keeps}
-use Rattle.edits.specs.Places.{at-number, at-token, at-below-parent, at-one, Numbered, at-node}
+use Rattle.edits.specs.Places.{treeSize, at-number, at-token, at-below-parent, at-one, Numbered, at-node}
 use Rattle.matching.specs.Measure.{treeIn, Built, built-size, Measured, stands}
-use Rattle.matching.specs.Finding.{leavesTo, first-token, all-tokens, Started, Numbers, kept-was, was-kept, Sourced}
+use Rattle.matching.specs.Finding.{leafOf, no-leaf, leavesTo, first-token, all-tokens, Started, Numbers, kept-was, was-kept, Sourced}
 use Rattle.matching.specs.Handing.{kid, HandedAll}
+use Rattle.matching.specs.Carrying.{in-subtree, InRow}
 use Rattle.matching.specs.Kids.{kid-node, kid-width, kid-reach, kid-is, kid-parent, kid-at, kid-few, child-few}
 
 -- the number of the old node whose slot node a' keeps, or 0
@@ -37,11 +38,43 @@ pub data Seeks (w widths : List ℕ) (n T base place removed inserted i t : ℕ)
   full : {v : ℕ} → (getD widths (base + i) 0 ≡ 0 → ⊥) → Sourced w widths n T place removed inserted t (nodeAt w (base + i) .symbol) v
       → Seeks w widths n T base place removed inserted i t ms (set ms i v)
 
--- and after its turn
-pub data Turned (w ends widths : List ℕ) (n T base place removed inserted i t : ℕ) (ms : List ℕ) : List ℕ → Type 0 where
-  alone : {mid : List ℕ} → Seeks w widths n T base place removed inserted i t ms mid → getD mid i 0 ≡ 0 → Turned w ends widths n T base place removed inserted i t ms mid
-  handed : {mid ms' : List ℕ} (j : ℕ) → Seeks w widths n T base place removed inserted i t ms mid → getD mid i 0 ≡ suc j → HandedAll ends widths base (base + i) j mid ms'
-      → Turned w ends widths n T base place removed inserted i t ms ms'
+-- ---- its turn
+
+-- the loop goes on behind node i alone, at node i' with token t'
+pub record Stepped (w : List ℕ) (base i t i' t' : ℕ) : Type 0 where
+  pub node : i' ≡ i + 1
+  pub token : t' ≡ t + leafOf (nodeAt w (base + i) .production)
+
+pub step-inner : (w : List ℕ) (base i t p : ℕ) → p ≡ nodeAt w (base + i) .production → (p ≡ 0 → ⊥) → Stepped w base i t (i + 1) t
+step-inner w base i t p e z = record { node = refl; token = omega (arith, no-leaf (nodeAt w (base + i) .production) (λ x. z (e ∙ x))) }
+
+pub step-leaf : (w : List ℕ) (base i t p : ℕ) → p ≡ nodeAt w (base + i) .production → p ≡ 0 → Stepped w base i t (i + 1) (t + 1)
+step-leaf w base i t p e z = record { node = refl; token = ap (λ (u : ℕ). t + leafOf u) (sym z ∙ e) }
+
+-- the token from which on a node of u tokens carries its subtree along
+pub data Border (u place inserted : ℕ) : ℕ → Type 0 where
+  void : u ≡ 0 → Border u place inserted 0
+  full : Border u place inserted (place + inserted)
+
+-- the subtree of node i, which starts with token t, ends before node `stop`; it has no tokens or starts behind the inserted ones
+pub record Reach (ends widths : List ℕ) (base place inserted i t stop : ℕ) : Type 0 where
+  pub end-is : base + stop ≡ getD ends (base + i) 0
+  pub low : i < stop
+  pub free : (getD widths (base + i) 0 ≡ 0) ⊎ (place + inserted ≤ t)
+
+-- that node, or 0
+pub data Reached (ends widths : List ℕ) (base place inserted i t : ℕ) : ℕ → Type 0 where
+  some : {stop : ℕ} → Reach ends widths base place inserted i t stop → Reached ends widths base place inserted i t stop
+  none : Reached ends widths base place inserted i t 0
+
+-- after the turn the loop goes on at node i' with token t'
+pub data Turned (w ends widths : List ℕ) (n T base place removed inserted i t : ℕ) (ms : List ℕ) : ℕ → ℕ → List ℕ → Type 0 where
+  alone : {i' t' : ℕ} {mid : List ℕ} → Seeks w widths n T base place removed inserted i t ms mid → getD mid i 0 ≡ 0 → Stepped w base i t i' t'
+      → Turned w ends widths n T base place removed inserted i t ms i' t' mid
+  handed : {i' t' : ℕ} {mid ms' : List ℕ} (j : ℕ) → Seeks w widths n T base place removed inserted i t ms mid → getD mid i 0 ≡ suc j → HandedAll ends widths base (base + i) j mid ms' → Stepped w base i t i' t'
+      → Turned w ends widths n T base place removed inserted i t ms i' t' ms'
+  carried : {i' t' : ℕ} {mid ms' : List ℕ} (j : ℕ) → Seeks w widths n T base place removed inserted i t ms mid → getD mid i 0 ≡ suc j → Reach ends widths base place inserted i t i' → InRow mid i i' (suc j) ms'
+      → t' ≡ t + getD widths (base + i) 0 → Turned w ends widths n T base place removed inserted i t ms i' t' ms'
 
 module _ {w widths : List ℕ} {n T base place removed inserted i t : ℕ} {ms : List ℕ} where
   pub seeks-void : (v : ℕ) → v ≡ getD widths (base + i) 0 → v ≡ 0 → Seeks w widths n T base place removed inserted i t ms ms
@@ -51,12 +84,35 @@ module _ {w widths : List ℕ} {n T base place removed inserted i t : ℕ} {ms :
       → Seeks w widths n T base place removed inserted i t ms ms'
   seeks-full u x v e z f h k = rw k (Seeks.full (λ o. z (e ∙ o)) (rw f at h))
 
-  pub turned-zero : {ends mid : List ℕ} (v : ℕ) → Seeks w widths n T base place removed inserted i t ms mid → v ≡ getD mid i 0 → v ≡ 0 → Turned w ends widths n T base place removed inserted i t ms mid
-  turned-zero v h e z = Turned.alone h (sym e ∙ z)
+  pub turned-zero : {ends mid : List ℕ} {i' t' : ℕ} (v : ℕ) → Seeks w widths n T base place removed inserted i t ms mid → v ≡ getD mid i 0 → v ≡ 0 → Stepped w base i t i' t'
+      → Turned w ends widths n T base place removed inserted i t ms i' t' mid
+  turned-zero v h e z g = Turned.alone h (sym e ∙ z) g
 
-  pub turned-some : {ends mid ms' : List ℕ} (v : ℕ) → Seeks w widths n T base place removed inserted i t ms mid → v ≡ getD mid i 0 → (v ≡ 0 → ⊥) → HandedAll ends widths base (base + i) (v - 1) mid ms'
-      → Turned w ends widths n T base place removed inserted i t ms ms'
-  turned-some v h e z x = let o : suc (v - 1) ≡ v = omega arith in Turned.handed (v - 1) h (sym e ∙ sym o) x
+  pub turned-some : {ends mid ms' : List ℕ} {i' t' : ℕ} (v : ℕ) → Seeks w widths n T base place removed inserted i t ms mid → v ≡ getD mid i 0 → (v ≡ 0 → ⊥) → HandedAll ends widths base (base + i) (v - 1) mid ms' → Stepped w base i t i' t'
+      → Turned w ends widths n T base place removed inserted i t ms i' t' ms'
+  turned-some v h e z x g = let o : suc (v - 1) ≡ v = omega arith in Turned.handed (v - 1) h (sym e ∙ sym o) x g
+
+  pub turned-row : {ends mid ms' : List ℕ} {i' : ℕ} (v u : ℕ) → Seeks w widths n T base place removed inserted i t ms mid → v ≡ getD mid i 0 → (v ≡ 0 → ⊥) → Reached ends widths base place inserted i t i' → (i' ≡ 0 → ⊥)
+      → InRow mid i i' v ms' → u ≡ getD widths (base + i) 0 → Turned w ends widths n T base place removed inserted i t ms i' (t + u) ms'
+  turned-row v u h e z (Reached.some g) k x f =
+      let o : v ≡ suc (v - 1) = omega arith in
+      Turned.carried (v - 1) h (sym e ∙ o) g (rw o at x) (ap (λ (y : ℕ). t + y) f)
+  turned-row v u h e z Reached.none k x f = absurd (k refl)
+
+-- the node behind the subtree is behind node i
+pub reach-low : {ends widths : List ℕ} {base place inserted i t stop : ℕ} → Reached ends widths base place inserted i t stop → (stop ≡ 0 → ⊥) → i < stop
+reach-low (Reached.some h) z = h .low
+reach-low Reached.none z = absurd (z refl)
+
+pub reached : {ends widths : List ℕ} {base place inserted i t b : ℕ} (stop end u : ℕ) → end ≡ getD ends (base + i) 0 → u ≡ getD widths (base + i) 0 → stop ≡ end - base → base + i < end → Border u place inserted b → b ≤ t
+    → Reached ends widths base place inserted i t stop
+reached {ends} {widths} {base = base} {place = place} {inserted = inserted} {i = i} {t = t} stop end u e f d l o k =
+    let x : Reach ends widths base place inserted i t stop = record { end-is = omega arith; low = omega arith; free = go o k } in
+    Reached.some x
+  where
+    go : {b : ℕ} → Border u place inserted b → b ≤ t → (getD widths (base + i) 0 ≡ 0) ⊎ (place + inserted ≤ t)
+    go (Border.void z) k = inl (sym f ∙ z)
+    go Border.full k = inr k
 
 -- what the turns stand on: both lists are trees, both were measured, and the old tree's tokens were marked
 pub record Ready (rows w : List ℕ) (n base k : ℕ) (ends widths : List ℕ) (T : ℕ) (starts : List ℕ) : Type 0 where
@@ -74,6 +130,11 @@ pub record Counted (w : List ℕ) (base i t : ℕ) : Type 0 where
 -- no new node keeps two slots
 abbrev pub KeepsOne : Edit → Forest → Forest → Type 0
 KeepsOne e old new = (a' a b : ℕ) → Keeps e old new a' a → Keeps e old new a' b → a ≡ b
+
+-- a kept node without tokens, or behind the inserted ones, carries its subtree along
+abbrev pub Carries : Edit → Forest → Forest → Type 0
+Carries e old new =
+    (a' a q m t : ℕ) (f : Forest) → Keeps e old new a' a → Node new a' q m t f → (own f ≡ 0) ⊎ (e .place + length (e .inserted) ≤ t) → (c : ℕ) → c < treeSize f → Keeps e old new (a' + c) (a + c)
 
 matched-none : {e : Edit} {old new : Forest} {a' v : ℕ} → Matched e old new a' v → v ≡ 0 → (a : ℕ) → Keeps e old new a' a → ⊥
 matched-none (Matched.keeps l k) z a x = omega arith
@@ -306,13 +367,55 @@ module _ {rows w : List ℕ} {n base k : ℕ} {ends widths : List ℕ} {T : ℕ}
             here : (a y : ℕ) → y ≡ i → suc y ≡ a → Matched e old new a (getD mid y 0)
             here a y q o = let v : a ≡ suc i = omega arith in rw (v, q) (sought-here x)
 
+      -- it keeps the slot of old node j + 1, and carries its subtree along
+      module _ (carries : Carries e old new) {mid ms' : List ℕ} {stop : ℕ} (j : ℕ) (x : Seeks w widths n T base place removed inserted i t ms mid) (z : getD mid i 0 ≡ suc j)
+          (g : Reach ends widths base place inserted i t stop) (R : InRow mid i stop (suc j) ms') where
+        stop-is : stop ≡ i + treeSize f
+        stop-is = omega (arith, g .end-is, r .new-measured .end (base + i) h (omega arith) (omega arith))
+
+        free : (getD widths (base + i) 0 ≡ 0) ⊎ (place + inserted ≤ t) → (own f ≡ 0) ⊎ (e .place + length (e .inserted) ≤ u)
+        free (inl y) = inl (sym width-is ∙ y)
+        free (inr y) = inr (omega (arith, token-is, numbers .place-is, numbers .inserted-is))
+
+        within : (a y : ℕ) → suc y ≡ a → i ≤ y → y < stop → Matched e old new a (getD ms' y 0)
+        within a y o l k =
+            let d : Keeps e old new (suc i + (y - i)) (suc j + (y - i)) =
+            carries (suc i) (suc j) q m u f (matched-some (sought-here x) z) h (free (g .free)) (y - i) (omega (arith, stop-is)) in
+            let v : suc i + (y - i) ≡ a = omega arith in
+            let one : 1 ≤ suc j + (y - i) = omega arith in
+            rw (R .inner y l k, ← v) (Matched.keeps one d)
+
+        before : (y : ℕ) → y < i → getD ms' y 0 ≡ getD ms y 0
+        before y l = R .low y l ∙ sought-there x y (λ d. omega arith)
+
+        behind : (y : ℕ) → stop ≤ y → getD ms' y 0 ≡ getD ms y 0
+        behind y l = R .high y l ∙ sought-there x y (λ d. omega (arith, g .low))
+
+        turned-carried : Status e old new stop ms'
+        turned-carried =
+            record {
+              done = λ a p c v y b d o l. by-cases (decLt y i) (λ k. rw (before y k) (s .done a p c v y b d o (omega arith))) (λ k. within a y o (omega arith) (omega arith));
+              void = λ a p c v y b d o l n. by-cases (decLt y i) (λ k. rw (before y k) (s .void a p c v y b d o (omega (arith, at-below-parent (omega arith) d)) n))
+                  (λ k. by-cases (decLt y stop) (within a y o (omega arith))
+                  (λ w. rw (behind y (omega arith)) (s .void a p c v y b d o (outside d l (omega arith)) n)));
+              full-left = λ a p c v y b d o l n. behind y (omega arith) ∙ s .full-left a p c v y b d o (omega (arith, g .low)) n;
+              void-left = λ a p c v y b d o l n. behind y (omega (arith, at-below-parent (omega arith) d)) ∙ s .void-left a p c v y b d o (omega (arith, g .low)) n;
+            }
+          where
+            outside : {a p c v : ℕ} {b : Forest} → Node new a p c v b → p ≤ stop → stop < a → p ≤ i
+            outside {a} {p} d l k =
+                by-cases (decLt i p) (λ o. absurd (omega (arith, in-subtree (omega arith) h d (omega arith) (omega (arith, stop-is)), stop-is))) (λ o. omega arith)
+
 -- a turn
-pub status-turn : {rows w : List ℕ} {n base k : ℕ} {ends widths : List ℕ} {T : ℕ} {starts : List ℕ} {place removed inserted : ℕ} {e : Edit} {i t : ℕ} {ms ms' : List ℕ} → Ready rows w n base k ends widths T starts
-    → Numbers e place removed inserted → KeepsOne e (treeIn rows w n 0) (treeIn rows w k base) → i < k → k ≤ length ms → Counted w base i t → Status e (treeIn rows w n 0) (treeIn rows w k base) i ms
-    → Turned w ends widths n T base place removed inserted i t ms ms' → Status e (treeIn rows w n 0) (treeIn rows w k base) (i + 1) ms'
-status-turn {rows} {w} {base = base} {k = k} {i = i} r s one l long c h (Turned.alone x z) =
+pub status-turn : {rows w : List ℕ} {n base k : ℕ} {ends widths : List ℕ} {T : ℕ} {starts : List ℕ} {place removed inserted : ℕ} {e : Edit} {i t i' t' : ℕ} {ms ms' : List ℕ} → Ready rows w n base k ends widths T starts
+    → Numbers e place removed inserted → KeepsOne e (treeIn rows w n 0) (treeIn rows w k base) → Carries e (treeIn rows w n 0) (treeIn rows w k base) → i < k → k ≤ length ms → Counted w base i t
+    → Status e (treeIn rows w n 0) (treeIn rows w k base) i ms → Turned w ends widths n T base place removed inserted i t ms i' t' ms' → Status e (treeIn rows w n 0) (treeIn rows w k base) i' ms'
+status-turn {rows} {w} {base = base} {k = k} {i = i} r s one all l long c h (Turned.alone x z g) =
     let o : Numbered 1 0 0 0 (treeIn rows w k base) (suc i) = at-node (treeIn rows w k base) (suc i) (omega arith) (omega (arith, built-size rows w k base)) in
-    turned-alone r s (o .node) c h (omega arith) x z
-status-turn {rows} {w} {base = base} {k = k} {i = i} r s one l long c h (Turned.handed j x z y) =
+    rw (g .node) (turned-alone r s (o .node) c h (omega arith) x z)
+status-turn {rows} {w} {base = base} {k = k} {i = i} r s one all l long c h (Turned.handed j x z y g) =
     let o : Numbered 1 0 0 0 (treeIn rows w k base) (suc i) = at-node (treeIn rows w k base) (suc i) (omega arith) (omega (arith, built-size rows w k base)) in
-    turned-handed r s (o .node) c h (omega arith) one j x z y
+    rw (g .node) (turned-handed r s (o .node) c h (omega arith) one j x z y)
+status-turn {rows} {w} {base = base} {k = k} {i = i} r s one all l long c h (Turned.carried j x z g y v) =
+    let o : Numbered 1 0 0 0 (treeIn rows w k base) (suc i) = at-node (treeIn rows w k base) (suc i) (omega arith) (omega (arith, built-size rows w k base)) in
+    turned-carried r s (o .node) c h (omega arith) all j x z g y

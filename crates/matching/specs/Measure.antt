@@ -42,7 +42,7 @@ entry-at w (suc n) base (u ∷ us) e vs h =
     rw z at (entry-at w n (base + 1) us e vs y)
 
 -- every node has its children
-at-formed : {ar : ℕ → ℕ} {i par n j a q m t : ℕ} {F f : Forest} → Formed ar F → At i par n j F a q m t f → Formed ar f
+pub at-formed : {ar : ℕ → ℕ} {i par n j a q m t : ℕ} {F f : Forest} → Formed ar F → At i par n j F a q m t f → Formed ar f
 at-formed d (At.here x y z w l) = d
 at-formed (Formed.node e c d) (At.inside h) = at-formed c h
 at-formed (Formed.leaf d) (At.past-leaf h) = at-formed d h
@@ -129,7 +129,7 @@ measured-more F base i ends widths end width l k s h =
 -- ---- going from child to child
 
 -- a node's siblings stand within the forest, and a forest has no more tokens than nodes
-at-within : {i par n j a q m t : ℕ} {F f : Forest} → At i par n j F a q m t f → a + size f ≤ i + size F
+pub at-within : {i par n j a q m t : ℕ} {F f : Forest} → At i par n j F a q m t f → a + size f ≤ i + size F
 at-within (At.here x y z w l) = omega arith
 at-within (At.inside h) = omega (arith, at-within h)
 at-within (At.past-leaf h) = omega (arith, at-within h)
@@ -140,7 +140,7 @@ few-tokens Forest.nil = omega arith
 few-tokens (Forest.leaf s x g r) = omega (arith, few-tokens r)
 few-tokens (Forest.node s M p k r) = omega (arith, few-tokens k, few-tokens r, length-append (yield k) (yield r))
 
-tree-few : (f : Forest) → (treeSize f ≤ size f) × (own f ≤ treeSize f)
+pub tree-few : (f : Forest) → (treeSize f ≤ size f) × (own f ≤ treeSize f)
 tree-few Forest.nil = (omega arith, omega arith)
 tree-few (Forest.leaf s x g r) = (omega arith, omega arith)
 tree-few (Forest.node s M p k r) = (omega arith, omega (arith, few-tokens k))

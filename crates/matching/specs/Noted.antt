@@ -6,9 +6,9 @@ use lib.ListN.{getD}
 use Rattle.trees.specs.Coded.{nodeAt}
 use Rattle.notes.specs.Views.{nodesIn, endsIn, widthsIn, startsIn, matchesIn, Viewed}
 use Rattle.matching.specs.Measure.{treeIn, Built, Measured, Spanned, Gauged}
-use Rattle.matching.specs.Finding.{Started}
+use Rattle.matching.specs.Finding.{Leaved, Started}
 use Rattle.matching.specs.Handing.{Rising, Handed, HandedAll}
-use Rattle.matching.specs.Matching.{Turned}
+use Rattle.matching.specs.Matching.{Stepped, Reached, Turned}
 use Rattle.matching.specs.Through.{Matches}
 
 -- nothing was written
@@ -39,6 +39,12 @@ module _ {S : ℕ} {w ns es ws ss ms : List ℕ} (v : Viewed S w ns es ws ss ms)
   pub rising-in : {lo hi : ℕ} → Rising es lo hi → Rising (endsIn S w) lo hi
   rising-in h = rw (v .ends) h
 
+  pub leaved-in : {lo hi : ℕ} → Leaved ns es ws lo hi → Leaved (nodesIn S w) (endsIn S w) (widthsIn S w) lo hi
+  leaved-in h = rw (v .nodes, v .ends, v .widths) h
+
+  pub width-in : (x : ℕ) {r : ℕ} → r ≡ getD ws x 0 → r ≡ getD (widthsIn S w) x 0
+  width-in x h = rw (v .widths) h
+
   pub handed-in : {c d base : ℕ} {ms₀ ms₁ : List ℕ} → Handed ws c d base ms₀ ms₁ → Handed (widthsIn S w) c d base ms₀ ms₁
   handed-in h = rw (v .widths) h
 
@@ -65,8 +71,14 @@ module _ {S : ℕ} {w ns es ws ss ms : List ℕ} (v : Viewed S w ns es ws ss ms)
   pub handed-all-out : {base i j : ℕ} {ms₀ ms₁ : List ℕ} → HandedAll (endsIn S w) (widthsIn S w) base i j ms₀ ms₁ → HandedAll es ws base i j ms₀ ms₁
   handed-all-out h = rw (v .ends, v .widths) at h
 
-  pub turned-out : {n T base place removed inserted i t : ℕ} {ms₀ ms₁ : List ℕ} → Turned (nodesIn S w) (endsIn S w) (widthsIn S w) n T base place removed inserted i t ms₀ ms₁
-      → Turned ns es ws n T base place removed inserted i t ms₀ ms₁
+  pub stepped-out : {base i t i' t' : ℕ} → Stepped (nodesIn S w) base i t i' t' → Stepped ns base i t i' t'
+  stepped-out h = rw (v .nodes) at h
+
+  pub reached-out : {base place inserted i t stop : ℕ} → Reached (endsIn S w) (widthsIn S w) base place inserted i t stop → Reached es ws base place inserted i t stop
+  reached-out h = rw (v .ends, v .widths) at h
+
+  pub turned-out : {n T base place removed inserted i t i' t' : ℕ} {ms₀ ms₁ : List ℕ} → Turned (nodesIn S w) (endsIn S w) (widthsIn S w) n T base place removed inserted i t ms₀ i' t' ms₁
+      → Turned ns es ws n T base place removed inserted i t ms₀ i' t' ms₁
   turned-out h = rw (v .nodes, v .ends, v .widths) at h
 
   pub matches-out : {n base k T place removed inserted : ℕ} {ms₁ : List ℕ} → Matches (nodesIn S w) n base k (endsIn S w) (widthsIn S w) T (startsIn S w) place removed inserted ms₁

@@ -1,5 +1,5 @@
 -- Going through the new nodes: the root first, then each node in its turn.
-use Prim.Native.Nat.{ℕ, suc, _+_, _-_, _≤_, _<_}
+use Prim.Native.Nat.{ℕ, zero, suc, _+_, _-_, _≤_, _<_}
 use mathlib.Core.Path.{_≡_, refl, sym, ap, _∙_}
 use mathlib.Core.Logic.{_⊎_, inl, inr, by-cases}
 use mathlib.Core.List.{List}
@@ -14,10 +14,10 @@ use Rattle.trees.specs.Coded.{nodeAt}
 use Rattle.edits.specs.Keeping.{Edit, own, At, Node, Keeps}
 use Rattle.edits.specs.Places.{at-number, at-some, at-below-parent, at-one, at-child, Side, Parent, at-up, Numbered, at-node}
 use Rattle.matching.specs.Measure.{treeIn, Built, built-size, Measured, measured-end, Gauged, measured-kept}
-use Rattle.matching.specs.Finding.{leafOf, no-leaf, leavesTo, leaves-next, Started, Numbers}
+use Rattle.matching.specs.Finding.{leafOf, leavesTo, leaves-next, Leaved, Started, Numbers}
 use Rattle.matching.specs.Handing.{Rising, Few, Handed}
 use Rattle.matching.specs.Kids.{back-some}
-use Rattle.matching.specs.Matching.{Matched, Status, Ready, Counted, KeepsOne, Turned, void-below, status-turn}
+use Rattle.matching.specs.Matching.{Matched, Status, Stepped, Turned, Ready, Counted, KeepsOne, Carries, void-below, status-turn}
 
 -- every entry is 0
 pub record Blank (ms : List ℕ) : Type 0 where
@@ -121,52 +121,63 @@ module _ {rows w : List ℕ} {n base k : ℕ} {ends widths : List ℕ} {T : ℕ}
 pub record Through (w : List ℕ) (n base k : ℕ) (ends widths : List ℕ) (T : ℕ) (starts : List ℕ) (place removed inserted i t : ℕ) (ms : List ℕ) : Type 0 where
   pub counted : Counted w base i t
   pub status : (rows : List ℕ) (e : Edit) → Ready rows w n base k ends widths T starts → Numbers e place removed inserted → KeepsOne e (treeIn rows w n 0) (treeIn rows w k base)
-      → Status e (treeIn rows w n 0) (treeIn rows w k base) i ms
+      → Carries e (treeIn rows w n 0) (treeIn rows w k base) → Status e (treeIn rows w n 0) (treeIn rows w k base) i ms
 
 -- all were
 pub record Matches (w : List ℕ) (n base k : ℕ) (ends widths : List ℕ) (T : ℕ) (starts : List ℕ) (place removed inserted : ℕ) (ms : List ℕ) : Type 0 where
   pub matched : (rows : List ℕ) (e : Edit) → Ready rows w n base k ends widths T starts → Numbers e place removed inserted → KeepsOne e (treeIn rows w n 0) (treeIn rows w k base)
-      → (i : ℕ) → i < k → Matched e (treeIn rows w n 0) (treeIn rows w k base) (suc i) (getD ms i 0)
+      → Carries e (treeIn rows w n 0) (treeIn rows w k base) → (i : ℕ) → i < k → Matched e (treeIn rows w n 0) (treeIn rows w k base) (suc i) (getD ms i 0)
 
 pub through-start : (w : List ℕ) (n base k : ℕ) (ends widths : List ℕ) (T : ℕ) (starts : List ℕ) (place removed inserted : ℕ) {ms₀ ms : List ℕ} → 1 ≤ n → 1 ≤ length ms₀ → Blank ms₀ → Handed widths base 0 base ms₀ ms
     → Through w n base k ends widths T starts place removed inserted 0 0 ms
 through-start w n base k ends widths T starts place removed inserted l o b h =
     let z : base + 0 ≡ base = omega arith in
-    record { counted = record { is = rw z (omega arith) }; status = λ rows e r s one. status-start r e b o l h }
+    record { counted = record { is = rw z (omega arith) }; status = λ rows e r s one all. status-start r e b o l h }
 
-module _ {w : List ℕ} {n base k : ℕ} {ends widths : List ℕ} {T : ℕ} {starts : List ℕ} {place removed inserted i t : ℕ} {ms ms' : List ℕ} (h : Through w n base k ends widths T starts place removed inserted i t ms)
-    (l : i < k) (long : k ≤ length ms) (x : Turned w ends widths n T base place removed inserted i t ms ms') (p : ℕ) (q : p ≡ nodeAt w (base + i) .production) where
-  next : (rows : List ℕ) (e : Edit) → Ready rows w n base k ends widths T starts → Numbers e place removed inserted → KeepsOne e (treeIn rows w n 0) (treeIn rows w k base)
-      → Status e (treeIn rows w n 0) (treeIn rows w k base) (i + 1) ms'
-  next rows e r s one = status-turn r s one l long (h .counted) (h .status rows e r s one) x
+-- of the first i nodes no more than i are leaves
+leaves-few : (w : List ℕ) (base i : ℕ) → leavesTo w (base + i) ≤ leavesTo w base + i
+leaves-few w base zero = let z : base + 0 ≡ base = omega arith in rw z (omega arith)
+leaves-few w base (suc i) =
+    let z : base + suc i ≡ base + i + 1 = omega arith in
+    rw z (omega (arith, leaves-next w (base + i), leaves-few w base i, leaf-few (nodeAt w (base + i) .production)))
+  where
+    leaf-few : (p : ℕ) → leafOf p ≤ 1
+    leaf-few zero = omega arith
+    leaf-few (suc p) = omega arith
 
-  leaves : (v : ℕ) → v ≡ leafOf p → leavesTo w base + (t + v) ≡ leavesTo w (base + (i + 1))
-  leaves v d =
-      let z : base + (i + 1) ≡ base + i + 1 = omega arith in
-      rw z (omega (arith, h .counted .is, leaves-next w (base + i), d, ap leafOf q))
+pub through-few : {w : List ℕ} {n base k : ℕ} {ends widths : List ℕ} {T : ℕ} {starts : List ℕ} {place removed inserted i t : ℕ} {ms : List ℕ} → Through w n base k ends widths T starts place removed inserted i t ms → t ≤ i
+through-few {w} {base = base} {i = i} h = omega (arith, h .counted .is, leaves-few w base i)
 
-  pub through-inner : (p ≡ 0 → ⊥) → Through w n base k ends widths T starts place removed inserted (i + 1) t ms'
-  through-inner nay =
-      let z : t + 0 ≡ t = omega arith in
-      record { counted = record { is = rw z at (leaves 0 (sym (no-leaf p nay))) }; status = next }
+-- a turn
+pub through-turn : {w : List ℕ} {n base k : ℕ} {ends widths : List ℕ} {T : ℕ} {starts : List ℕ} {place removed inserted i t i' t' : ℕ} {ms ms' : List ℕ} → Through w n base k ends widths T starts place removed inserted i t ms
+    → i < k → k ≤ length ms → Leaved w ends widths base (base + k) → Turned w ends widths n T base place removed inserted i t ms i' t' ms' → Through w n base k ends widths T starts place removed inserted i' t' ms'
+through-turn {w} {base = base} {ends = ends} {widths = widths} {i = i} {t = t} h l long v x =
+    record { counted = counted x; status = λ rows e r s one all. status-turn r s one all l long (h .counted) (h .status rows e r s one all) x }
+  where
+    stepped : {i' t' : ℕ} → Stepped w base i t i' t' → Counted w base i' t'
+    stepped g =
+        let z : base + (i + 1) ≡ base + i + 1 = omega arith in
+        record { is = rw (g .node, g .token, z) (omega (arith, h .counted .is, leaves-next w (base + i))) }
 
-  pub through-leaf : p ≡ 0 → Through w n base k ends widths T starts place removed inserted (i + 1) (t + 1) ms'
-  through-leaf z = record { counted = record { is = leaves 1 (rw z) }; status = next }
+    counted : {n T place removed inserted i' t' : ℕ} {ms ms' : List ℕ} → Turned w ends widths n T base place removed inserted i t ms i' t' ms' → Counted w base i' t'
+    counted (Turned.alone a b g) = stepped g
+    counted (Turned.handed j a b c g) = stepped g
+    counted (Turned.carried j a b g c d) = record { is = rw (d, g .end-is) (omega (arith, h .counted .is, v .each (base + i) (omega arith) (omega arith))) }
 
 pub through-end : {w : List ℕ} {n base k : ℕ} {ends widths : List ℕ} {T : ℕ} {starts : List ℕ} {place removed inserted i t : ℕ} {ms : List ℕ} → Through w n base k ends widths T starts place removed inserted i t ms → k ≤ i
     → Matches w n base k ends widths T starts place removed inserted ms
 through-end {w} {n} {base} {k} h l =
     record {
-      matched = λ rows e r s one y o.
+      matched = λ rows e r s one all y o.
           let d : Numbered 1 0 0 0 (treeIn rows w k base) (suc y) = at-node (treeIn rows w k base) (suc y) (omega arith) (omega (arith, built-size rows w k base)) in
-          h .status rows e r s one .done (suc y) (d .parent) (d .child) (d .token) y (d .forest) (d .node) refl (omega arith);
+          h .status rows e r s one all .done (suc y) (d .parent) (d .child) (d .token) y (d .forest) (d .node) refl (omega arith);
     }
 
 -- ---- from the beginning
 
 -- for each new node the old one whose slot it keeps
 pub record Matching (rows w : List ℕ) (n base k place removed inserted : ℕ) (ms : List ℕ) : Type 0 where
-  pub matched : (e : Edit) → Numbers e place removed inserted → KeepsOne e (treeIn rows w n 0) (treeIn rows w k base) → (i : ℕ) → i < k
+  pub matched : (e : Edit) → Numbers e place removed inserted → KeepsOne e (treeIn rows w n 0) (treeIn rows w k base) → Carries e (treeIn rows w n 0) (treeIn rows w k base) → (i : ℕ) → i < k
       → Matched e (treeIn rows w n 0) (treeIn rows w k base) (suc i) (getD ms i 0)
 
 pub rising-new : (rows w : List ℕ) (n base : ℕ) {ends₀ widths₀ ends widths : List ℕ} → Gauged (treeIn rows w n base) base 0 ends₀ widths₀ ends widths → Rising ends base (base + n)
@@ -191,4 +202,4 @@ module _ (rows w : List ℕ) (n base k : ℕ) {ends₀ widths₀ ends₁ widths�
   matched-all {T} {starts} b c d s m =
       let r : Ready rows w n base k ends widths T starts =
       record { old-built = b; new-built = c; old-measured = old-measured; new-measured = h .measured; started = s; one-tree = d } in
-      record { matched = λ e u one. m .matched rows e r u one }
+      record { matched = λ e u one all. m .matched rows e r u one all }

@@ -1,16 +1,18 @@
 // Which old node's slot each new node keeps. The old tree's nodes and the new tree's stand in the work area, the new ones from node `slots` on; a node is known by its index there.
 // Of each node the index behind its subtree (`end`) and the number of its tokens (`width`) are noted, from the last node to the first. Then the new nodes are
 // gone through in preorder: one with tokens looks for the old node that starts with the same token, and hands on to its children without tokens.
+// A kept node without tokens or behind the inserted ones has the old node's very subtree: all of it is kept node by node, and need not be gone through.
 ghost use mathlib.Core.Path.{_≡_};
-ghost use Prim.Native.Nat.{_+_, _<_, _≤_};
+ghost use Prim.Native.Nat.{_+_, _-_, _<_, _≤_};
 ghost use lib.ListN.{length, getD};
 ghost use Rattle.trees.specs.Nodes.{trees};
 ghost use Rattle.trees.specs.Area.{maxSlots};
 ghost use Rattle.notes.specs.Views.{notesSize, nodesIn, endsIn, widthsIn, startsIn, matchesIn, Viewed};
 ghost use Rattle.matching.specs.Measure.{treeIn, Built, Measured, Spanned, Gauged};
-ghost use Rattle.matching.specs.Finding.{Started, Found, WasTold, Sourced};
+ghost use Rattle.matching.specs.Finding.{Leaved, Started, Found, WasTold, Sourced};
 ghost use Rattle.matching.specs.Handing.{Rising, Few, Handed, HandedAll};
-ghost use Rattle.matching.specs.Matching.{Seeks, Turned};
+ghost use Rattle.matching.specs.Carrying.{InRow};
+ghost use Rattle.matching.specs.Matching.{Seeks, Border, Reached, Stepped, Turned};
 ghost use Rattle.matching.specs.Through.{Blank, Matches, Matching};
 
 // The index behind a node's subtree, and the number of its tokens.
@@ -169,7 +171,19 @@ fn hand_on(work: &mut [u8], n: usize, slots: usize, k: usize, i: usize, j: usize
     }
 }
 
-// Looks for the old node of the new node i, which starts with token t, if it has tokens.
+// Entries i..stop become v, v + 1 and so on.
+fn carry(work: &mut [u8], slots: usize, i: usize, stop: usize, v: usize)
+    requires { ⌜ (slots ≤ maxSlots) × (notesSize slots ≤ length (now work)) × (i ≤ stop) × (stop ≤ slots) × (v ≤ slots) ⌝ }
+    ensures { λ _. ⌜ InRow (matchesIn slots (now (work .entry))) i stop v (matchesIn slots (now (work .exit))) × Viewed slots (now (work .exit)) (nodesIn slots (now (work .entry))) (endsIn slots (now (work .entry))) (widthsIn slots (now (work .entry))) (startsIn slots (now (work .entry))) (matchesIn slots (now (work .exit))) ⌝ }
+{
+    let mut y = i;
+    while y < stop {
+        notes::set_match(work, slots, y, v + (y - i));
+        y += 1;
+    }
+}
+
+// Looks for the old node of the new node i, which starts with token t, if it has tokens; the entry.
 fn seek(
     work: &mut [u8],
     n: usize,
@@ -180,16 +194,78 @@ fn seek(
     inserted: usize,
     i: usize,
     t: usize,
-)
-    requires { ⌜ (n ≤ slots) × (slots ≤ maxSlots) × (notesSize slots ≤ length (now work)) × (i < slots) × (tokens ≤ slots) × Started (nodesIn slots (now work)) n tokens (startsIn slots (now work)) × (t ≤ 65535) × (place ≤ 65535) × (removed ≤ 65535) × (inserted ≤ 65535) × Few n (matchesIn slots (now work)) ⌝ }
-    ensures { λ _. ⌜ Seeks (nodesIn slots (now (work .entry))) (widthsIn slots (now (work .entry))) n tokens slots place removed inserted i t (matchesIn slots (now (work .entry))) (matchesIn slots (now (work .exit))) × Few n (matchesIn slots (now (work .exit))) × Viewed slots (now (work .exit)) (nodesIn slots (now (work .entry))) (endsIn slots (now (work .entry))) (widthsIn slots (now (work .entry))) (startsIn slots (now (work .entry))) (matchesIn slots (now (work .exit))) ⌝ }
+    width: usize,
+) -> usize
+    requires { ⌜ (n ≤ slots) × (slots ≤ maxSlots) × (notesSize slots ≤ length (now work)) × (i < slots) × (tokens ≤ slots) × Started (nodesIn slots (now work)) n tokens (startsIn slots (now work)) × (t ≤ 65535) × (place ≤ 65535) × (removed ≤ 65535) × (inserted ≤ 65535) × Few n (matchesIn slots (now work)) × (width ≡ getD (widthsIn slots (now work)) (slots + i) 0) ⌝ }
+    ensures { λ r. ⌜ Seeks (nodesIn slots (now (work .entry))) (widthsIn slots (now (work .entry))) n tokens slots place removed inserted i t (matchesIn slots (now (work .entry))) (matchesIn slots (now (work .exit))) × Few n (matchesIn slots (now (work .exit))) × Viewed slots (now (work .exit)) (nodesIn slots (now (work .entry))) (endsIn slots (now (work .entry))) (widthsIn slots (now (work .entry))) (startsIn slots (now (work .entry))) (matchesIn slots (now (work .exit))) × (r ≡ getD (matchesIn slots (now (work .exit))) i 0) × (r ≤ n) ⌝ }
 {
-    if notes::width_of(work, slots, slots + i) == 0 {
-        return;
+    if width == 0 {
+        return notes::match_of(work, slots, i);
     }
     let x = notes::symbol_in(work, slots, slots + i);
     let v = source(work, n, slots, tokens, place, removed, inserted, t, x);
     notes::set_match(work, slots, i, v);
+    v
+}
+
+// The token from which on a kept node carries its subtree along; one without tokens always does.
+fn border(width: usize, place: usize, inserted: usize) -> usize
+    requires { ⌜ (place ≤ 65535) × (inserted ≤ 65535) ⌝ }
+    ensures { λ r. ⌜ Border width place inserted r ⌝ }
+{
+    if width == 0 {
+        return 0;
+    }
+    place + inserted
+}
+
+// The index behind the subtree of the new node i, if it is carried along with old node v; else 0.
+fn reach(
+    work: &[u8],
+    n: usize,
+    slots: usize,
+    k: usize,
+    place: usize,
+    inserted: usize,
+    i: usize,
+    t: usize,
+    width: usize,
+    v: usize,
+) -> usize
+    requires { ⌜ (n ≤ slots) × (k ≤ slots) × (slots ≤ maxSlots) × (notesSize slots ≤ length (now work)) × (i < k) × (place ≤ 65535) × (inserted ≤ 65535) × Rising (endsIn slots (now work)) slots (slots + k) × (width ≡ getD (widthsIn slots (now work)) (slots + i) 0) × (v ≤ n) ⌝ }
+    ensures { λ r. ⌜ Reached (endsIn slots (now (work .entry))) (widthsIn slots (now (work .entry))) slots place inserted i t r × (v + (r - i) ≤ n + 1) × (r ≤ k) ⌝ }
+{
+    if t < border(width, place, inserted) {
+        return 0;
+    }
+    let stop = notes::end_of(work, slots, slots + i) - slots;
+    if n + 1 < v + (stop - i) {
+        return 0;
+    }
+    stop
+}
+
+// Where to go on: at this node, which starts with this token.
+struct Next {
+    node: usize,
+    token: usize,
+}
+
+// Behind the new node i alone, which starts with token t.
+fn step(work: &[u8], slots: usize, i: usize, t: usize) -> Next
+    requires { ⌜ (slots ≤ maxSlots) × (notesSize slots ≤ length (now work)) × (i < slots) × (t ≤ 65535) ⌝ }
+    ensures { λ r. ⌜ Stepped (nodesIn slots (now (work .entry))) slots i t (r .node) (r .token) × (r .node ≡ i + 1) ⌝ }
+{
+    if notes::production_in(work, slots, slots + i) != 0 {
+        return Next {
+            node: i + 1,
+            token: t,
+        };
+    }
+    Next {
+        node: i + 1,
+        token: t + 1,
+    }
 }
 
 // The new node i, which starts with token t.
@@ -204,16 +280,36 @@ fn turn(
     inserted: usize,
     i: usize,
     t: usize,
-)
+) -> Next
     requires { ⌜ (n ≤ slots) × (k ≤ slots) × (slots ≤ maxSlots) × (notesSize slots ≤ length (now work)) × (i < k) × (tokens ≤ slots) × Started (nodesIn slots (now work)) n tokens (startsIn slots (now work)) × (t ≤ 65535) × (place ≤ 65535) × (removed ≤ 65535) × (inserted ≤ 65535) × Rising (endsIn slots (now work)) 0 n × Rising (endsIn slots (now work)) slots (slots + k) × Few n (matchesIn slots (now work)) ⌝ }
-    ensures { λ _. ⌜ Turned (nodesIn slots (now (work .entry))) (endsIn slots (now (work .entry))) (widthsIn slots (now (work .entry))) n tokens slots place removed inserted i t (matchesIn slots (now (work .entry))) (matchesIn slots (now (work .exit))) × Few n (matchesIn slots (now (work .exit))) × Viewed slots (now (work .exit)) (nodesIn slots (now (work .entry))) (endsIn slots (now (work .entry))) (widthsIn slots (now (work .entry))) (startsIn slots (now (work .entry))) (matchesIn slots (now (work .exit))) ⌝ }
+    ensures { λ r. ⌜ Turned (nodesIn slots (now (work .entry))) (endsIn slots (now (work .entry))) (widthsIn slots (now (work .entry))) n tokens slots place removed inserted i t (matchesIn slots (now (work .entry))) (r .node) (r .token) (matchesIn slots (now (work .exit))) × Few n (matchesIn slots (now (work .exit))) × Viewed slots (now (work .exit)) (nodesIn slots (now (work .entry))) (endsIn slots (now (work .entry))) (widthsIn slots (now (work .entry))) (startsIn slots (now (work .entry))) (matchesIn slots (now (work .exit))) × (i < r .node) × (r .node ≤ k) ⌝ }
 {
-    seek(work, n, slots, tokens, place, removed, inserted, i, t);
-    let v = notes::match_of(work, slots, i);
+    let width = notes::width_of(work, slots, slots + i);
+    let v = seek(
+        work,
+        n,
+        slots,
+        tokens,
+        place,
+        removed,
+        inserted,
+        i,
+        t,
+        width,
+    );
     if v == 0 {
-        return;
+        return step(work, slots, i, t);
     }
-    hand_on(work, n, slots, k, slots + i, v - 1);
+    let stop = reach(work, n, slots, k, place, inserted, i, t, width, v);
+    if stop == 0 {
+        hand_on(work, n, slots, k, slots + i, v - 1);
+        return step(work, slots, i, t);
+    }
+    carry(work, slots, i, stop, v);
+    Next {
+        node: stop,
+        token: t + width,
+    }
 }
 
 // Goes through the k new nodes; the root first.
@@ -227,20 +323,16 @@ fn go_through(
     removed: usize,
     inserted: usize,
 )
-    requires { ⌜ (1 ≤ n) × (1 ≤ k) × (n ≤ slots) × (k ≤ slots) × (slots ≤ maxSlots) × (notesSize slots ≤ length (now work)) × (tokens ≤ slots) × Started (nodesIn slots (now work)) n tokens (startsIn slots (now work)) × (place ≤ 65535) × (removed ≤ 65535) × (inserted ≤ 65535) × Rising (endsIn slots (now work)) 0 n × Rising (endsIn slots (now work)) slots (slots + k) × Blank (matchesIn slots (now work)) ⌝ }
+    requires { ⌜ (1 ≤ n) × (1 ≤ k) × (n ≤ slots) × (k ≤ slots) × (slots ≤ maxSlots) × (notesSize slots ≤ length (now work)) × (tokens ≤ slots) × Started (nodesIn slots (now work)) n tokens (startsIn slots (now work)) × (place ≤ 65535) × (removed ≤ 65535) × (inserted ≤ 65535) × Rising (endsIn slots (now work)) 0 n × Rising (endsIn slots (now work)) slots (slots + k) × Blank (matchesIn slots (now work)) × Leaved (nodesIn slots (now work)) (endsIn slots (now work)) (widthsIn slots (now work)) slots (slots + k) ⌝ }
     ensures { λ _. ⌜ Matches (nodesIn slots (now (work .entry))) n slots k (endsIn slots (now (work .entry))) (widthsIn slots (now (work .entry))) tokens (startsIn slots (now (work .entry))) place removed inserted (matchesIn slots (now (work .exit))) × Few n (matchesIn slots (now (work .exit))) × Viewed slots (now (work .exit)) (nodesIn slots (now (work .entry))) (endsIn slots (now (work .entry))) (widthsIn slots (now (work .entry))) (startsIn slots (now (work .entry))) (matchesIn slots (now (work .exit))) ⌝ }
 {
     hand(work, slots, slots, 0);
     let mut i: usize = 0;
     let mut t: usize = 0;
     while i < k {
-        let y = slots + i;
-        turn(work, n, slots, k, tokens, place, removed, inserted, i, t);
-        i += 1;
-        if notes::production_in(work, slots, y) != 0 {
-            continue;
-        }
-        t += 1;
+        let next = turn(work, n, slots, k, tokens, place, removed, inserted, i, t);
+        i = next.node;
+        t = next.token;
     }
 }
 

@@ -1,5 +1,6 @@
+use Rattle.matching.specs.Finding.{leaved}
 use Rattle.matching.specs.Through.{blank-zeros, first-zero, rising-new, rising-old, matched-all}
-use Rattle.matching.specs.Noted.{spans-on, starts-on, matches-on, built-in, started-in, started-out, rising-in, gauged-out, matches-out}
+use Rattle.matching.specs.Noted.{spans-on, starts-on, matches-on, built-in, started-in, started-out, rising-in, leaved-in, gauged-out, matches-out}
 use borrow.Author.Needs.{needs}
 use Rattle.matching.proofs.match_nodes.Statement.{statement}
 use Rattle.matching.proofs.match_nodes.Tie as tie
@@ -20,9 +21,10 @@ go-through-requires : tie.Need-go-through-requires
 go-through-requires c κs =
     let u = spans-on (c .before .before .before .before .before .before .before .before .before .before .before .before .before .before .before .clear .ensures) (c .before .before .before .before .before .before .before .before .before .before .before .measure .ensures .1) in
     let v = spans-on u (c .before .before .before .before .before .before .before .measure2 .ensures .1) in
+    let w = starts-on v (c .before .before .before .mark-starts .ensures .1) in
     let g = gauged-out (c .before .before .before .before .before .before .before .before .before .before .before .before .before .before .before .clear .ensures) _ _ (c .before .before .before .before .before .before .before .before .before .before .before .measure .ensures .0) in
     let h = gauged-out u _ _ (c .before .before .before .before .before .before .before .measure2 .ensures .0) in
-    (search needs, search needs, search needs, search needs, search needs, search needs, search needs, started-in (c .before .before .before .mark-starts .ensures .1) (c .before .before .before .mark-starts .ensures .0), search needs, search needs, search needs, rising-in (c .before .before .before .mark-starts .ensures .1) (rising-old _ _ _ _ _ g h (search needs)), rising-in (c .before .before .before .mark-starts .ensures .1) (rising-new _ _ _ _ h), blank-zeros _ _ (starts-on v (c .before .before .before .mark-starts .ensures .1) .matches))
+    (search needs, search needs, search needs, search needs, search needs, search needs, search needs, started-in (c .before .before .before .mark-starts .ensures .1) (c .before .before .before .mark-starts .ensures .0), search needs, search needs, search needs, rising-in (c .before .before .before .mark-starts .ensures .1) (rising-old _ _ _ _ _ g h (search needs)), rising-in (c .before .before .before .mark-starts .ensures .1) (rising-new _ _ _ _ h), blank-zeros _ _ (w .matches), leaved-in w (leaved _ _ _ _ (c .before .before .before .before .before .before .before .before .before .before .before .before .before .before .before .before .before .before .before .pre .1) (h .measured)))
 
 same-length : tie.Need-same-length
 same-length c = search needs

@@ -1,22 +1,19 @@
+use Rattle.matching.specs.Handing.{few-set, few-set-one, few-entry}
 use Rattle.notes.specs.Views.{length-matches}
-use Rattle.matching.specs.Handing.{few-set}
 use Rattle.matching.specs.Matching.{seeks-void, seeks-full}
 use Rattle.matching.specs.Noted.{viewed-all, matches-on}
 use borrow.Author.Needs.{needs}
 use Rattle.matching.proofs.seek.Statement.{statement}
 use Rattle.matching.proofs.seek.Tie as tie
 
-add-width-of : tie.Need-add-width-of
-add-width-of c = search needs
-
-width-of-requires : tie.Need-width-of-requires
-width-of-requires c κs = search needs
+match-of-requires : tie.Need-match-of-requires
+match-of-requires c κs = search needs
 
 same-length : tie.Need-same-length
 same-length c = search needs
 
 returns : tie.Need-returns
-returns c = (seeks-void _ (c .before .width-of .ensures .0) (search needs), search needs, viewed-all _ _)
+returns c = (seeks-void _ (c .before .before .before .before .pre .11) (search needs), search needs, viewed-all _ _, search needs, few-entry _ (c .before .before .before .before .pre .10) (c .match-of .ensures .0))
 
 add-symbol-in : tie.Need-add-symbol-in
 add-symbol-in c = search needs
@@ -34,15 +31,13 @@ same-length-2 : tie.Need-same-length-2
 same-length-2 c = search needs
 
 returns-2 : tie.Need-returns-2
-returns-2 c =
-    (seeks-full _ _ _ (c .before .before .before .before .before .before .before .before .before .width-of .ensures .0) (search needs) (c .before .before .before .before .before .before .symbol-in .ensures .0) (c .before .before .before .before .source .ensures .0) (c .before .before .set-match .ensures .matches), few-set _ _ (c .before .before .before .before .before .before .before .before .before .before .before .before .pre .10) (rw length-matches (search needs)) (search needs) (c .before .before .set-match .ensures .matches), matches-on (viewed-all _ _) (c .before .before .set-match .ensures))
+returns-2 c = (seeks-full _ _ _ (c .before .before .before .before .before .before .before .before .before .before .pre .11) (search needs) (c .before .before .before .before .before .before .symbol-in .ensures .0) (c .before .before .before .before .source .ensures .0) (c .before .before .set-match .ensures .matches), few-set _ _ (c .before .before .before .before .before .before .before .before .before .before .pre .10) (rw length-matches (search needs)) (search needs) (c .before .before .set-match .ensures .matches), matches-on (viewed-all _ _) (c .before .before .set-match .ensures), few-set-one _ _ (c .before .before .before .before .before .before .before .before .before .before .pre .10) (rw length-matches (search needs)) (c .before .before .set-match .ensures .matches), search needs)
 
 pub seek-spec : {M : Type 1} → statement M
 seek-spec =
     tie.close
     (tie.spec
-    add-width-of
-    width-of-requires
+    match-of-requires
     same-length
     returns
     add-symbol-in
