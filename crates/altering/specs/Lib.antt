@@ -2,6 +2,7 @@
 pub mod Treed
 pub mod Outcome
 -- The new tree's nodes get their slots.
+pub mod Along
 pub mod Settling
 pub mod Parts
 -- The ways through the code.

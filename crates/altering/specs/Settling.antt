@@ -16,13 +16,12 @@ use Rattle.trees.specs.Listing.{inSlot}
 use Rattle.trees.specs.Members.{member}
 use Rattle.trees.specs.Spread.{slotsOf, slots-build, Spread}
 use Rattle.plain.specs.Traced.{Same}
-use Rattle.plain.specs.Alike.{same-size, same-back}
+use Rattle.plain.specs.Alike.{same-back}
 use Rattle.walks.specs.Reading.{valid-one}
-use Rattle.edits.specs.Keeping.{Edit, Kept, edited, own, Node, Keeps, Holds, Holding, GivenUp, Altered}
-use Rattle.edits.specs.Places.{treeSize, at-number, at-one}
+use Rattle.edits.specs.Keeping.{Edit, edited, Holds, Holding, GivenUp, Altered}
 use Rattle.edits.specs.One.{keeps-one}
 use Rattle.edits.specs.Edited.{Trees}
-use Rattle.edits.specs.After.{first, Carried, void-carries, after-carries}
+use Rattle.edits.specs.After.{first}
 use Rattle.edits.specs.Giving.{holding-held, kept-made}
 use Rattle.edits.specs.Counts.{kept-given-up}
 use Rattle.edits.specs.Uniqueness.{keeps-same}
@@ -35,6 +34,7 @@ use Rattle.keeping.specs.Matched.{slotBy, heldFrom, Old, Fit, length-from, held
 use Rattle.keeping.specs.Marking.{Keeps as Counts}
 use Rattle.keeping.specs.Filling.{Gives}
 use Rattle.keeping.specs.Result.{gives-spread, gives-same}
+use Rattle.altering.specs.Along.{carries}
 use Rattle.altering.specs.Treed.{arity-rows, Treed, treed-fits}
 use Rattle.altering.specs.Outcome.{Alters, AltersTree}
 use Rattle.altering.specs.declared.Alteration.the-variants as Alteration
@@ -93,12 +93,6 @@ leaves-slotted (Slotted.cons {e = e} {e' = e'} {es = es} {es' = es'} q h) = rw q
     go : (p : ℕ) → e .production ≡ p → leavesOf es ≡ leavesOf es' → leavesOf (e ∷ es) ≡ leavesOf (inSlot (e' .slot) e ∷ es')
     go zero z x = rw z (ap (λ (u : List Token). record { kind = e .symbol; tag = e .tag } ∷ u) x)
     go (suc p) z x = rw z x
-
--- a forest's first tree alone
-first-size : (f : Forest) → size (first f) ≡ treeSize f
-first-size Forest.nil = refl
-first-size (Forest.leaf s x g r) = refl
-first-size (Forest.node s M p k r) = omega arith
 
 -- how many slots are given up
 given-up-some : (hs ss : List ℕ) → (u : ℕ) × GivenUp hs ss u
@@ -184,26 +178,8 @@ module _ (rows : List ℕ) (t n start count S : ℕ) (e : Edit) (tree w : List �
       } in
       rw old-is u
 
-  -- a kept node without tokens, or behind the inserted ones, carries its subtree along
   pub both-carries : Carries e (treeIn rows w o 0) (treeIn rows w k S)
-  both-carries a' a q m t f x d free c l = go x
-    where
-      along : {a' a : ℕ} {f' f : Forest} → Carried e (treeIn rows w o 0) new a' f' a f → c < treeSize f' → Keeps e (treeIn rows w o 0) new (a' + c) (a + c)
-      along {f' = f'} {f = f} s l = s .each c (omega (arith, same-size (s .same), first-size f, first-size f'))
-
-      behind : {t' b : ℕ} → Kept e t' b → e .place + length (e .inserted) ≤ t' → e .place + e .removed ≤ b
-      behind (Kept.before u v) l = absurd (omega arith)
-      behind (Kept.after b u v) l = omega arith
-
-      after : {q' m' t' a q m t : ℕ} {f' f : Forest} → Keeps e (treeIn rows w o 0) new a' a → Node new a' q' m' t' f' → Node (treeIn rows w o 0) a q m t f → Kept e t' t → 1 ≤ own f' → (own f' ≡ 0) ⊎ (e .place + length (e .inserted) ≤ t')
-          → c < treeSize f' → Keeps e (treeIn rows w o 0) new (a' + c) (a + c)
-      after x n o k s (inl z) l = absurd (omega arith)
-      after x n o k s (inr z) l = along (after-carries both-trees x n o (behind k z)) l
-
-      go : {a : ℕ} → Keeps e (treeIn rows w o 0) new a' a → Keeps e (treeIn rows w o 0) new (a' + c) (a + c)
-      go (Keeps.above u v) = absurd (omega (arith, at-number d .0))
-      go (Keeps.full n o k s ln lo) = let z = at-one d n in after (Keeps.full n o k s ln lo) n o k ln (rw (z .forest, z .token) at free) (rw (z .forest) at l)
-      go (Keeps.void n o k ln lo) = let z = at-one d n in along (void-carries both-trees (Keeps.void n o k ln lo) n o ln lo) (rw (z .forest) at l)
+  both-carries = carries both-trees
 
   -- ---- the slots that are held
 

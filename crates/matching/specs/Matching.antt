@@ -30,6 +30,19 @@ pub record Status (e : Edit) (old new : Forest) (i : ℕ) (ms : List ℕ) : Type
   pub full-left : (a q m t y : ℕ) (f : Forest) → Node new a q m t f → suc y ≡ a → i < a → 1 ≤ own f → getD ms y 0 ≡ 0
   pub void-left : (a q m t y : ℕ) (f : Forest) → Node new a q m t f → suc y ≡ a → i < q → own f ≡ 0 → getD ms y 0 ≡ 0
 
+-- ---- what the edit doesn't touch
+
+-- a node that starts with token t of the new sentence and has u tokens: it has none, or starts behind the inserted ones, or ends before the place
+pub data Apart (place inserted t u : ℕ) : Type 0 where
+  void : u ≡ 0 → Apart place inserted t u
+  after : place + inserted ≤ t → Apart place inserted t u
+  before : t + u < place → Apart place inserted t u
+
+pub apart-not : {place inserted t u : ℕ} → (u ≡ 0 → ⊥) → t < place + inserted → place ≤ t + u → Apart place inserted t u → ⊥
+apart-not z l k (Apart.void x) = z x
+apart-not z l k (Apart.after x) = omega arith
+apart-not z l k (Apart.before x) = omega arith
+
 -- ---- what a node with tokens looks for
 
 -- entry i after the search of the new node at index base + i, which starts with token t
@@ -51,16 +64,11 @@ step-inner w base i t p e z = record { node = refl; token = omega (arith, no-lea
 pub step-leaf : (w : List ℕ) (base i t p : ℕ) → p ≡ nodeAt w (base + i) .production → p ≡ 0 → Stepped w base i t (i + 1) (t + 1)
 step-leaf w base i t p e z = record { node = refl; token = ap (λ (u : ℕ). t + leafOf u) (sym z ∙ e) }
 
--- the token from which on a node of u tokens carries its subtree along
-pub data Border (u place inserted : ℕ) : ℕ → Type 0 where
-  void : u ≡ 0 → Border u place inserted 0
-  full : Border u place inserted (place + inserted)
-
--- the subtree of node i, which starts with token t, ends before node `stop`; it has no tokens or starts behind the inserted ones
+-- the subtree of node i, which starts with token t, ends before node `stop`, and the edit doesn't touch it
 pub record Reach (ends widths : List ℕ) (base place inserted i t stop : ℕ) : Type 0 where
   pub end-is : base + stop ≡ getD ends (base + i) 0
   pub low : i < stop
-  pub free : (getD widths (base + i) 0 ≡ 0) ⊎ (place + inserted ≤ t)
+  pub apart : Apart place inserted t (getD widths (base + i) 0)
 
 -- that node, or 0
 pub data Reached (ends widths : List ℕ) (base place inserted i t : ℕ) : ℕ → Type 0 where
@@ -104,15 +112,11 @@ pub reach-low : {ends widths : List ℕ} {base place inserted i t stop : ℕ} �
 reach-low (Reached.some h) z = h .low
 reach-low Reached.none z = absurd (z refl)
 
-pub reached : {ends widths : List ℕ} {base place inserted i t b : ℕ} (stop end u : ℕ) → end ≡ getD ends (base + i) 0 → u ≡ getD widths (base + i) 0 → stop ≡ end - base → base + i < end → Border u place inserted b → b ≤ t
+pub reached : {ends widths : List ℕ} {base place inserted i t : ℕ} (stop end u : ℕ) → end ≡ getD ends (base + i) 0 → u ≡ getD widths (base + i) 0 → stop ≡ end - base → base + i < end → Apart place inserted t u
     → Reached ends widths base place inserted i t stop
-reached {ends} {widths} {base = base} {place = place} {inserted = inserted} {i = i} {t = t} stop end u e f d l o k =
-    let x : Reach ends widths base place inserted i t stop = record { end-is = omega arith; low = omega arith; free = go o k } in
+reached {ends} {widths} {base} {place} {inserted} {i} {t} stop end u e f d l o =
+    let x : Reach ends widths base place inserted i t stop = record { end-is = omega arith; low = omega arith; apart = rw f at o } in
     Reached.some x
-  where
-    go : {b : ℕ} → Border u place inserted b → b ≤ t → (getD widths (base + i) 0 ≡ 0) ⊎ (place + inserted ≤ t)
-    go (Border.void z) k = inl (sym f ∙ z)
-    go Border.full k = inr k
 
 -- what the turns stand on: both lists are trees, both were measured, and the old tree's tokens were marked
 pub record Ready (rows w : List ℕ) (n base k : ℕ) (ends widths : List ℕ) (T : ℕ) (starts : List ℕ) : Type 0 where
@@ -131,10 +135,10 @@ pub record Counted (w : List ℕ) (base i t : ℕ) : Type 0 where
 abbrev pub KeepsOne : Edit → Forest → Forest → Type 0
 KeepsOne e old new = (a' a b : ℕ) → Keeps e old new a' a → Keeps e old new a' b → a ≡ b
 
--- a kept node without tokens, or behind the inserted ones, carries its subtree along
+-- a kept node that the edit doesn't touch carries its subtree along
 abbrev pub Carries : Edit → Forest → Forest → Type 0
 Carries e old new =
-    (a' a q m t : ℕ) (f : Forest) → Keeps e old new a' a → Node new a' q m t f → (own f ≡ 0) ⊎ (e .place + length (e .inserted) ≤ t) → (c : ℕ) → c < treeSize f → Keeps e old new (a' + c) (a + c)
+    (a' a q m t : ℕ) (f : Forest) → Keeps e old new a' a → Node new a' q m t f → Apart (e .place) (length (e .inserted)) t (own f) → (c : ℕ) → c < treeSize f → Keeps e old new (a' + c) (a + c)
 
 matched-none : {e : Edit} {old new : Forest} {a' v : ℕ} → Matched e old new a' v → v ≡ 0 → (a : ℕ) → Keeps e old new a' a → ⊥
 matched-none (Matched.keeps l k) z a x = omega arith
@@ -373,20 +377,19 @@ module _ {rows w : List ℕ} {n base k : ℕ} {ends widths : List ℕ} {T : ℕ}
         stop-is : stop ≡ i + treeSize f
         stop-is = omega (arith, g .end-is, r .new-measured .end (base + i) h (omega arith) (omega arith))
 
-        free : (getD widths (base + i) 0 ≡ 0) ⊎ (place + inserted ≤ t) → (own f ≡ 0) ⊎ (e .place + length (e .inserted) ≤ u)
-        free (inl y) = inl (sym width-is ∙ y)
-        free (inr y) = inr (omega (arith, token-is, numbers .place-is, numbers .inserted-is))
+        apart : Apart (e .place) (length (e .inserted)) u (own f)
+        apart = rw (numbers .place-is, numbers .inserted-is, token-is, ← width-is) (g .apart)
 
         within : (a y : ℕ) → suc y ≡ a → i ≤ y → y < stop → Matched e old new a (getD ms' y 0)
         within a y o l k =
             let d : Keeps e old new (suc i + (y - i)) (suc j + (y - i)) =
-            carries (suc i) (suc j) q m u f (matched-some (sought-here x) z) h (free (g .free)) (y - i) (omega (arith, stop-is)) in
+            carries (suc i) (suc j) q m u f (matched-some (sought-here x) z) h apart (y - i) (omega (arith, stop-is)) in
             let v : suc i + (y - i) ≡ a = omega arith in
             let one : 1 ≤ suc j + (y - i) = omega arith in
             rw (R .inner y l k, ← v) (Matched.keeps one d)
 
-        before : (y : ℕ) → y < i → getD ms' y 0 ≡ getD ms y 0
-        before y l = R .low y l ∙ sought-there x y (λ d. omega arith)
+        in-front : (y : ℕ) → y < i → getD ms' y 0 ≡ getD ms y 0
+        in-front y l = R .low y l ∙ sought-there x y (λ d. omega arith)
 
         behind : (y : ℕ) → stop ≤ y → getD ms' y 0 ≡ getD ms y 0
         behind y l = R .high y l ∙ sought-there x y (λ d. omega (arith, g .low))
@@ -394,8 +397,8 @@ module _ {rows w : List ℕ} {n base k : ℕ} {ends widths : List ℕ} {T : ℕ}
         turned-carried : Status e old new stop ms'
         turned-carried =
             record {
-              done = λ a p c v y b d o l. by-cases (decLt y i) (λ k. rw (before y k) (s .done a p c v y b d o (omega arith))) (λ k. within a y o (omega arith) (omega arith));
-              void = λ a p c v y b d o l n. by-cases (decLt y i) (λ k. rw (before y k) (s .void a p c v y b d o (omega (arith, at-below-parent (omega arith) d)) n))
+              done = λ a p c v y b d o l. by-cases (decLt y i) (λ k. rw (in-front y k) (s .done a p c v y b d o (omega arith))) (λ k. within a y o (omega arith) (omega arith));
+              void = λ a p c v y b d o l n. by-cases (decLt y i) (λ k. rw (in-front y k) (s .void a p c v y b d o (omega (arith, at-below-parent (omega arith) d)) n))
                   (λ k. by-cases (decLt y stop) (within a y o (omega arith))
                   (λ w. rw (behind y (omega arith)) (s .void a p c v y b d o (outside d l (omega arith)) n)));
               full-left = λ a p c v y b d o l n. behind y (omega arith) ∙ s .full-left a p c v y b d o (omega (arith, g .low)) n;

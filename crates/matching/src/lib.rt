@@ -1,10 +1,11 @@
 // Which old node's slot each new node keeps. The old tree's nodes and the new tree's stand in the work area, the new ones from node `slots` on; a node is known by its index there.
 // Of each node the index behind its subtree (`end`) and the number of its tokens (`width`) are noted, from the last node to the first. Then the new nodes are
 // gone through in preorder: one with tokens looks for the old node that starts with the same token, and hands on to its children without tokens.
-// A kept node without tokens or behind the inserted ones has the old node's very subtree: all of it is kept node by node, and need not be gone through.
+// A kept node that the edit doesn't touch has the old node's very subtree: all of it is kept node by node, and need not be gone through.
 ghost use mathlib.Core.Path.{_≡_};
 ghost use Prim.Native.Nat.{_+_, _-_, _<_, _≤_};
 ghost use lib.ListN.{length, getD};
+ghost use Rattle.base.specs.Tells.{Tells};
 ghost use Rattle.trees.specs.Nodes.{trees};
 ghost use Rattle.trees.specs.Area.{maxSlots};
 ghost use Rattle.notes.specs.Views.{notesSize, nodesIn, endsIn, widthsIn, startsIn, matchesIn, Viewed};
@@ -12,7 +13,7 @@ ghost use Rattle.matching.specs.Measure.{treeIn, Built, Measured, Spanne
 ghost use Rattle.matching.specs.Finding.{Leaved, Started, Found, WasTold, Sourced};
 ghost use Rattle.matching.specs.Handing.{Rising, Few, Handed, HandedAll};
 ghost use Rattle.matching.specs.Carrying.{InRow};
-ghost use Rattle.matching.specs.Matching.{Seeks, Border, Reached, Stepped, Turned};
+ghost use Rattle.matching.specs.Matching.{Apart, Seeks, Reached, Stepped, Turned};
 ghost use Rattle.matching.specs.Through.{Blank, Matches, Matching};
 
 // The index behind a node's subtree, and the number of its tokens.
@@ -208,15 +209,21 @@ fn seek(
     v
 }
 
-// The token from which on a kept node carries its subtree along; one without tokens always does.
-fn border(width: usize, place: usize, inserted: usize) -> usize
-    requires { ⌜ (place ≤ 65535) × (inserted ≤ 65535) ⌝ }
-    ensures { λ r. ⌜ Border width place inserted r ⌝ }
+// Whether the edit doesn't touch a node that starts with token t: it has no tokens, or starts behind the inserted ones, or ends before the place.
+fn is_apart(t: usize, width: usize, place: usize, inserted: usize) -> bool
+    requires { ⌜ (t ≤ 65535) × (width ≤ 65535) × (place ≤ 65535) × (inserted ≤ 65535) ⌝ }
+    ensures { λ r. ⌜ Tells (Apart place inserted t width) r ⌝ }
 {
     if width == 0 {
-        return 0;
+        return true;
     }
-    place + inserted
+    if place + inserted <= t {
+        return true;
+    }
+    if t + width < place {
+        return true;
+    }
+    false
 }
 
 // The index behind the subtree of the new node i, if it is carried along with old node v; else 0.
@@ -232,10 +239,10 @@ fn reach(
     width: usize,
     v: usize,
 ) -> usize
-    requires { ⌜ (n ≤ slots) × (k ≤ slots) × (slots ≤ maxSlots) × (notesSize slots ≤ length (now work)) × (i < k) × (place ≤ 65535) × (inserted ≤ 65535) × Rising (endsIn slots (now work)) slots (slots + k) × (width ≡ getD (widthsIn slots (now work)) (slots + i) 0) × (v ≤ n) ⌝ }
+    requires { ⌜ (n ≤ slots) × (k ≤ slots) × (slots ≤ maxSlots) × (notesSize slots ≤ length (now work)) × (i < k) × (place ≤ 65535) × (inserted ≤ 65535) × Rising (endsIn slots (now work)) slots (slots + k) × (width ≡ getD (widthsIn slots (now work)) (slots + i) 0) × (v ≤ n) × (t ≤ 65535) × (width ≤ 65535) ⌝ }
     ensures { λ r. ⌜ Reached (endsIn slots (now (work .entry))) (widthsIn slots (now (work .entry))) slots place inserted i t r × (v + (r - i) ≤ n + 1) × (r ≤ k) ⌝ }
 {
-    if t < border(width, place, inserted) {
+    if !is_apart(t, width, place, inserted) {
         return 0;
     }
     let stop = notes::end_of(work, slots, slots + i) - slots;

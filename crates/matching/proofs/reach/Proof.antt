@@ -1,11 +1,13 @@
+use borrow.Author.Tests.{not-false}
 use Rattle.matching.specs.Handing.{rise-low, rise-high}
 use Rattle.matching.specs.Matching.{Reached, reached}
+use Rattle.matching.specs.Matching.{Reached}
 use borrow.Author.Needs.{needs}
 use Rattle.matching.proofs.reach.Statement.{statement}
 use Rattle.matching.proofs.reach.Tie as tie
 
-border-requires : tie.Need-border-requires
-border-requires c κs = search needs
+is-apart-requires : tie.Need-is-apart-requires
+is-apart-requires c κs = search needs
 
 returns : tie.Need-returns
 returns c = (Reached.none, search needs, search needs)
@@ -34,13 +36,13 @@ returns-2 c = (Reached.none, search needs, search needs)
 returns-3 : tie.Need-returns-3
 returns-3 c = let x = rise-low (c .before .before .before .before .before .pre .7) (search needs) (search needs) (c .before .end-of .ensures .0) in
     let y = rise-high (c .before .before .before .before .before .pre .7) (search needs) (search needs) (c .before .end-of .ensures .0) in
-    (reached _ _ _ (c .before .end-of .ensures .0) (c .before .before .before .before .before .pre .8) (search needs) x (c .before .before .before .border .ensures) (search needs), search needs, search needs)
+    (reached _ _ _ (c .before .end-of .ensures .0) (c .before .before .before .before .before .pre .8) (search needs) x (c .before .before .before .is-apart .ensures .yes (not-false _ (c .before .before .if1 .left))), search needs, search needs)
 
 pub reach-spec : {M : Type 1} → statement M
 reach-spec =
     tie.close
     (tie.spec
-    border-requires
+    is-apart-requires
     returns
     add-end-of
     end-of-requires

@@ -24,7 +24,7 @@ returns : tie.Need-returns
 returns c = (turned-zero _ (c .before .before .before .before .before .seek .ensures .0) (c .before .before .before .before .before .seek .ensures .3) (search needs) (stepped-out (c .before .before .before .before .before .seek .ensures .2) (c .step .ensures .0)), search needs, c .before .before .before .before .before .seek .ensures .2, search needs, search needs)
 
 reach-requires : tie.Need-reach-requires
-reach-requires c κs = (search needs, search needs, search needs, search needs, search needs, search needs, search needs, rising-in (c .before .before .before .before .seek .ensures .2) (c .before .before .before .before .before .before .before .before .before .pre .12), width-in (c .before .before .before .before .seek .ensures .2) _ (c .before .before .before .before .before .before .width-of .ensures .0), search needs)
+reach-requires c κs = (search needs, search needs, search needs, search needs, search needs, search needs, search needs, rising-in (c .before .before .before .before .seek .ensures .2) (c .before .before .before .before .before .before .before .before .before .pre .12), width-in (c .before .before .before .before .seek .ensures .2) _ (c .before .before .before .before .before .before .width-of .ensures .0), search needs, search needs, search needs)
 
 add-hand-on : tie.Need-add-hand-on
 add-hand-on c = search needs
