@@ -8,21 +8,13 @@ use lib.Seq.{take-all, take-at, getD-set-same, getD-set-other}
 use native.Mathlib.Decide.{ℕ-discrete, decLt}
 use native.Mathlib.Omega.{arith}
 use Rattle.grammar.specs.Forest.{Token, Forest, size, yield}
-use Rattle.trees.specs.Nodes.{Node as Entry, innerNode, leafNode, preorder, leavesOf, Formed, leaves-append, leaves-yield}
+use Rattle.trees.specs.Nodes.{Node as Entry, innerNode, leafNode, preorder, leavesOf, Formed, leaves-append, leaves-yield, leafOf, no-leaf}
 use Rattle.trees.specs.Coded.{nodeAt, nodesFrom, length-nodes}
 use Rattle.edits.specs.Keeping.{Edit, Kept, own, beside, Node}
 use Rattle.edits.specs.Places.{treeSize, at-number, Numbered, at-node, at-listed, at-leaves}
 use Rattle.matching.specs.Measure.{treeIn, Built, built-size, at-formed, Measured}
 
 -- ---- the leaves before a node
-
-abbrev pub leafOf : ℕ → ℕ
-leafOf zero = 1
-leafOf (suc p) = 0
-
-pub no-leaf : (p : ℕ) → (p ≡ 0 → ⊥) → leafOf p ≡ 0
-no-leaf zero n = absurd (n refl)
-no-leaf (suc p) n = refl
 
 -- how many of the first i nodes are leaves
 abbrev pub leavesTo : List ℕ → ℕ → ℕ

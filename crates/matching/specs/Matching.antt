@@ -8,12 +8,12 @@ use lib.Seq.{getD-set-same, getD-set-other}
 use native.Mathlib.Decide.{ℕ-discrete, decLt}
 use native.Mathlib.Omega.{arith}
 use Rattle.grammar.specs.Forest.{Forest}
-use Rattle.trees.specs.Nodes.{trees, back}
+use Rattle.trees.specs.Nodes.{trees, back, leafOf, no-leaf}
 use Rattle.trees.specs.Coded.{nodeAt}
 use Rattle.edits.specs.Keeping.{Edit, symbol, own, below, Node, Keeps}
 use Rattle.edits.specs.Places.{treeSize, at-number, at-token, at-below-parent, at-one, Numbered, at-node}
 use Rattle.matching.specs.Measure.{treeIn, Built, built-size, Measured, stands}
-use Rattle.matching.specs.Finding.{leafOf, no-leaf, leavesTo, first-token, all-tokens, Started, Numbers, kept-was, was-kept, Sourced}
+use Rattle.matching.specs.Finding.{leavesTo, first-token, all-tokens, Started, Numbers, kept-was, was-kept, Sourced}
 use Rattle.matching.specs.Handing.{kid, HandedAll}
 use Rattle.matching.specs.Carrying.{in-subtree, InRow}
 use Rattle.matching.specs.Kids.{kid-node, kid-width, kid-reach, kid-is, kid-parent, kid-at, kid-few, child-few}
