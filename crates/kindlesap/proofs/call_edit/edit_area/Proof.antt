@@ -1,0 +1,27 @@
+use borrow.Author.Needs.{needs}
+use Rattle.kindlesap.proofs.call_edit.edit_area.Statement.{statement}
+use Rattle.kindlesap.proofs.call_edit.edit_area.Tie as tie
+use Rattle.kindlesap.specs.Editing.{edits-wrong}
+
+slots-of-requires : tie.Need-slots-of-requires
+slots-of-requires c κs = search needs
+
+returns : tie.Need-returns
+returns c = edits-wrong _ _ _ _ _ _ _ (c .before .before .before .before .before .before .before .pre .1) _ _ (search needs) (c .before .slots-of .ensures) (c .if1 .taken)
+
+edit-tree-requires : tie.Need-edit-tree-requires
+edit-tree-requires c κs = let z = c .before .before .before .slots-of .ensures .right (c .before .before .if1 .left) in (c .before .before .before .before .before .before .before .before .before .pre .0, c .before .before .before .before .before .before .before .before .before .pre .1, z .0, z .1, z .2)
+
+same-length : tie.Need-same-length
+same-length c = search needs
+
+same-length-2 : tie.Need-same-length-2
+same-length-2 c = search needs
+
+returns-2 : tie.Need-returns-2
+returns-2 c = search needs
+
+pub edit-area-spec : {M : Type 1} → statement M
+edit-area-spec =
+    tie.close
+    (tie.spec slots-of-requires returns edit-tree-requires same-length same-length-2 returns-2)

@@ -1,0 +1,56 @@
+use Rattle.base.specs.Blocks.{zeros}
+use mathlib.Core.Path.{refl}
+use Rattle.kindlesap.specs.Judging.{judged-useless, judged-conflict, judged-fit}
+use borrow.Author.Needs.{needs}
+use Rattle.kindlesap.proofs.call_read_back.read_read.Statement.{statement}
+use Rattle.kindlesap.proofs.call_read_back.read_read.Tie as tie
+
+slice-aggregate-judge : tie.Need-slice-aggregate-judge
+slice-aggregate-judge c = search needs
+
+slice-aggregate-judge-2 : tie.Need-slice-aggregate-judge-2
+slice-aggregate-judge-2 c = search needs
+
+judge-requires : tie.Need-judge-requires
+unfolding zeros
+judge-requires c κs = (c .before .before .before .before .before .pre .0, c .before .before .before .before .before .pre .1, search needs, search needs, refl)
+
+enum-known-symbol : tie.Need-enum-known-symbol
+enum-known-symbol c = search needs
+
+enum-known-symbol-2 : tie.Need-enum-known-symbol-2
+enum-known-symbol-2 c = search needs
+
+enum-told : tie.Need-enum-told
+enum-told c = search needs
+
+read-fit-requires : tie.Need-read-fit-requires
+read-fit-requires c κs = search needs
+
+returns : tie.Need-returns
+returns c = judged-useless _ _ _ (c .before .before .before .before .before .judge .ensures) (search needs)
+
+returns-2 : tie.Need-returns-2
+returns-2 c = judged-conflict _ _ _ (c .before .before .before .before .before .judge .ensures) (search needs)
+
+same-length : tie.Need-same-length
+same-length c = search needs
+
+returns-3 : tie.Need-returns-3
+returns-3 c = judged-fit _ _ _ _ (c .before .before .before .before .before .before .before .before .before .judge .ensures) (search needs) (c .before .before .read-fit .ensures)
+
+pub read-read-spec : {M : Type 1} → statement M
+read-read-spec =
+    tie.close
+    (tie.spec
+    slice-aggregate-judge
+    slice-aggregate-judge-2
+    judge-requires
+    enum-known-symbol
+    enum-known-symbol-2
+    enum-told
+    read-fit-requires
+    returns
+    returns-2
+    same-length
+    returns-3)
