@@ -5,7 +5,7 @@ ghost use mathlib.Core.List.{_∷_};
 ghost use lib.ListN.{length, take, drop};
 ghost use Rattle.base.specs.Bytes.{leBytes};
 ghost use Rattle.base.specs.Blocks.{copied};
-ghost use Rattle.trees.specs.Area.{tagSpace, maxSlots};
+ghost use Rattle.trees.specs.Area.{maxSlots};
 ghost use Rattle.trees.specs.Coded.{nodeSize};
 ghost use Rattle.plain.specs.Tokens.{tokenSize, tokensFrom};
 ghost use Rattle.sentences.specs.Adding.{Added};
@@ -21,17 +21,12 @@ pub struct Reached {
 
 // Writes a token at `at`.
 fn put_token(out: &mut [u8], at: usize, kind: usize, tag: usize)
-    requires { ⌜ (kind < 256) × (tag < tagSpace) ⌝ }
+    requires { ⌜ (kind < 256) × (at + tokenSize ≤ length (now out)) ⌝ }
     ensures { λ _. ⌜ now (out .exit) ≡ copied (now (out .entry)) at (kind ∷ leBytes 4 tag) ⌝ }
 {
-    let bytes = [
-        kind as u8,
-        (tag % 256) as u8,
-        (tag / 256 % 256) as u8,
-        (tag / 256 / 256 % 256) as u8,
-        (tag / 256 / 256 / 256 % 256) as u8,
-    ];
-    base::copy(out, at, &bytes);
+    base::put_byte(out, at, kind as u8);
+    base::put_two(out, at + 1, tag % 65536);
+    base::put_two(out, at + 3, tag / 65536 % 65536);
 }
 
 // Writes the tokens of the leaves among n nodes, from node `from` on: the first one as token `at`, the last one before token `end`. The tokens stand behind the nodes, from byte `text` on.

@@ -1,46 +1,42 @@
-use Rattle.base.specs.Bytes.{leBytes}
+use Rattle.sentences.specs.Adding.{token-put}
+use native.Mathlib.Omega.{arith}
 use borrow.Author.Needs.{needs}
 use Rattle.sentences.proofs.put_token.Statement.{statement}
 use Rattle.sentences.proofs.put_token.Tie as tie
 
-cast-t6 : tie.Need-cast-t6
-cast-t6 c = search needs
+cast-put-byte : tie.Need-cast-put-byte
+cast-put-byte c = search needs
 
-cast-t8 : tie.Need-cast-t8
-cast-t8 c = search needs
+put-byte-requires : tie.Need-put-byte-requires
+put-byte-requires c κs = search needs
 
-cast-t11 : tie.Need-cast-t11
-cast-t11 c = search needs
+add-put-two : tie.Need-add-put-two
+add-put-two c = search needs
 
-cast-t15 : tie.Need-cast-t15
-cast-t15 c = search needs
+put-two-requires : tie.Need-put-two-requires
+put-two-requires c κs = (search needs, omega arith)
 
-cast-t20 : tie.Need-cast-t20
-cast-t20 c = search needs
+add-put-two-2 : tie.Need-add-put-two-2
+add-put-two-2 c = search needs
 
-slice-aggregate-copy : tie.Need-slice-aggregate-copy
-slice-aggregate-copy c = search needs
-
-copy-requires : tie.Need-copy-requires
-copy-requires c κs = search needs
+put-two-requires-2 : tie.Need-put-two-requires-2
+put-two-requires-2 c κs = (search needs, omega arith)
 
 same-length : tie.Need-same-length
 same-length c = search needs
 
 returns : tie.Need-returns
-unfolding leBytes
-returns c = search needs
+returns c = search (token-put, needs)
 
 pub put-token-spec : {M : Type 1} → statement M
 put-token-spec =
     tie.close
     (tie.spec
-    cast-t6
-    cast-t8
-    cast-t11
-    cast-t15
-    cast-t20
-    slice-aggregate-copy
-    copy-requires
+    cast-put-byte
+    put-byte-requires
+    add-put-two
+    put-two-requires
+    add-put-two-2
+    put-two-requires-2
     same-length
     returns)
