@@ -1,4 +1,4 @@
--- A kept node that the edit doesn't touch carries its subtree along, as matching asks.
+-- What matching asks of two trees: a node before the place keeps the slot of that number, and a kept node that the edit doesn't touch carries its subtree along.
 use Prim.Native.Nat.{ℕ, zero, suc, _+_, _≤_, _<_}
 use mathlib.Core.Path.{_≡_, refl, sym, ap, _∙_, subst}
 use mathlib.Core.Logic.{_⊎_, inl, inr}
@@ -15,7 +15,7 @@ use Rattle.edits.specs.One.{Back, keeps-back, keeps-old, keeps-one}
 use Rattle.edits.specs.Edited.{Trees, same-after}
 use Rattle.edits.specs.Before.{before-keeps}
 use Rattle.edits.specs.After.{first, tree-size, Carried, keeps-start, void-carries, after-carries}
-use Rattle.matching.specs.Matching.{Apart, Carries, keeps-node, void-below}
+use Rattle.matching.specs.Matching.{Apart, Fronts, Carries, keeps-node, void-below}
 
 -- a forest's first tree alone
 first-size : (f : Forest) → size (first f) ≡ treeSize f
@@ -74,9 +74,8 @@ module _ {G : Grammar} {e : Edit} {old new : Forest} (h : Trees G e old new) whe
       yields =
           rw (before, behind, ← drop-drop (e .removed) (e .place) (yield old), take-append-drop (e .removed) (drop (e .place) (yield old)), take-append-drop (e .place) (yield old))
 
-  -- a new node that starts before the place keeps the slot of the old one of its number
-  new-before : {a q m t : ℕ} {f : Forest} → Node new a q m t f → t < e .place → Keeps e old new a a
-  new-before d l = keeps-back back (before-keeps undo-trees d l)
+  pub fronts : Fronts e old new
+  fronts a q m t f d l = keeps-back back (before-keeps undo-trees d l)
     where
       back : Back undo e
       back = record { place = refl; removed = sym undo-long; inserted = refl }
@@ -101,7 +100,7 @@ module _ {G : Grammar} {e : Edit} {old new : Forest} (h : Trees G e old new) whe
       go (inr x) = along c (void-carries h k d (u .node) (x .0) (x .1)) o
   carries a' a q m t f k d (Apart.before l) c o =
       let n = subtree-token d c o (a' + c) refl in
-      let x : Keeps e old new (a' + c) (a' + c) = new-before (n .0 .node) (omega (arith, n .1)) in
-      let z : a' ≡ a = keeps-one (h .prepared) (h .first) (new-before d (omega arith)) k in
+      let x : Keeps e old new (a' + c) (a' + c) = fronts (a' + c) (n .0 .parent) (n .0 .child) (n .0 .token) (n .0 .forest) (n .0 .node) (omega (arith, n .1)) in
+      let z : a' ≡ a = keeps-one (h .prepared) (h .first) (fronts a' q m t f d (omega arith)) k in
       let v : a' + c ≡ a + c = omega arith in
       subst (λ (u : ℕ). Keeps e old new (a' + c) u) v x

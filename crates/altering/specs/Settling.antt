@@ -28,13 +28,13 @@ use Rattle.edits.specs.Uniqueness.{keeps-same}
 use Rattle.matching.specs.Measure.{treeIn, Built, built-size, stands, few-tokens}
 use Rattle.matching.specs.Finding.{Numbers}
 use Rattle.matching.specs.Handing.{Few}
-use Rattle.matching.specs.Matching.{Matched, KeepsOne, Carries, keeps-node}
+use Rattle.matching.specs.Matching.{Matched, KeepsOne, Fronts, Carries, keeps-node}
 use Rattle.matching.specs.Through.{Matching}
 use Rattle.keeping.specs.Matched.{slotBy, heldFrom, Old, Fit, length-from, held-get, slot-none, slot-some}
 use Rattle.keeping.specs.Marking.{Keeps as Counts}
 use Rattle.keeping.specs.Filling.{Gives}
 use Rattle.keeping.specs.Result.{gives-spread, gives-same}
-use Rattle.altering.specs.Along.{carries}
+use Rattle.altering.specs.Along.{fronts, carries}
 use Rattle.altering.specs.Treed.{arity-rows, Treed, treed-fits}
 use Rattle.altering.specs.Outcome.{Alters, AltersTree}
 use Rattle.altering.specs.declared.Alteration.the-variants as Alteration
@@ -181,6 +181,9 @@ module _ (rows : List ℕ) (t n start count S : ℕ) (e : Edit) (tree w : List �
   pub both-carries : Carries e (treeIn rows w o 0) (treeIn rows w k S)
   both-carries = carries both-trees
 
+  pub both-fronts : Fronts e (treeIn rows w o 0) (treeIn rows w k S)
+  both-fronts = fronts both-trees
+
   -- ---- the slots that are held
 
   module _ {place removed inserted : ℕ} (s : Numbers e place removed inserted) {ms : List ℕ} (m : Matching rows w o S k place removed inserted ms) (few : Few o ms) where
@@ -202,7 +205,7 @@ module _ (rows : List ℕ) (t n start count S : ℕ) (e : Edit) (tree w : List �
           long = length-from w ms k 0 ∙ sym (built-size rows w k S);
           each = λ i l. let q : i < k = omega (arith, built-size rows w k S) in
               let z : 0 + i ≡ i = omega arith in
-              rw (held-get w ms k 0 i q, z) (holds (m .matched e s both-keeps both-carries i q));
+              rw (held-get w ms k 0 i q, z) (holds (m .matched e s both-keeps both-fronts both-carries i q));
         } in
         rw old-is at u
 

@@ -50,6 +50,7 @@ pub data Seeks (w widths : List ℕ) (n T base place removed inserted i t : ℕ)
   void : getD widths (base + i) 0 ≡ 0 → Seeks w widths n T base place removed inserted i t ms ms
   full : {v : ℕ} → (getD widths (base + i) 0 ≡ 0 → ⊥) → Sourced w widths n T place removed inserted t (nodeAt w (base + i) .symbol) v
       → Seeks w widths n T base place removed inserted i t ms (set ms i v)
+  front : t < place → Seeks w widths n T base place removed inserted i t ms (set ms i (i + 1))
 
 -- ---- its turn
 
@@ -91,6 +92,9 @@ module _ {w widths : List ℕ} {n T base place removed inserted i t : ℕ} {ms :
   pub seeks-full : {ms' : List ℕ} (u x v : ℕ) → u ≡ getD widths (base + i) 0 → (u ≡ 0 → ⊥) → x ≡ nodeAt w (base + i) .symbol → Sourced w widths n T place removed inserted t x v → ms' ≡ set ms i v
       → Seeks w widths n T base place removed inserted i t ms ms'
   seeks-full u x v e z f h k = rw k (Seeks.full (λ o. z (e ∙ o)) (rw f at h))
+
+  pub seeks-front : {ms' : List ℕ} → t < place → ms' ≡ set ms i (i + 1) → Seeks w widths n T base place removed inserted i t ms ms'
+  seeks-front l k = rw k (Seeks.front l)
 
   pub turned-zero : {ends mid : List ℕ} {i' t' : ℕ} (v : ℕ) → Seeks w widths n T base place removed inserted i t ms mid → v ≡ getD mid i 0 → v ≡ 0 → Stepped w base i t i' t'
       → Turned w ends widths n T base place removed inserted i t ms i' t' mid
@@ -134,6 +138,10 @@ pub record Counted (w : List ℕ) (base i t : ℕ) : Type 0 where
 -- no new node keeps two slots
 abbrev pub KeepsOne : Edit → Forest → Forest → Type 0
 KeepsOne e old new = (a' a b : ℕ) → Keeps e old new a' a → Keeps e old new a' b → a ≡ b
+
+-- a new node that starts before the place keeps the slot of the old one of its number
+abbrev pub Fronts : Edit → Forest → Forest → Type 0
+Fronts e old new = (a q m t : ℕ) (f : Forest) → Node new a q m t f → t < e .place → Keeps e old new a a
 
 -- a kept node that the edit doesn't touch carries its subtree along
 abbrev pub Carries : Edit → Forest → Forest → Type 0
@@ -220,14 +228,19 @@ module _ {rows w : List ℕ} {n base k : ℕ} {ends widths : List ℕ} {T : ℕ}
         go a (Keeps.void {f' = f'} hn ho kp zn zo) = omega (arith, zn, ap own (at-one hn h .forest), l)
 
     -- entry i after the search
-    module _ {ms : List ℕ} (s : Status e old new i ms) (long : i < length ms) where
+    module _ (fronts : Fronts e old new) {ms : List ℕ} (s : Status e old new i ms) (long : i < length ms) where
       pub sought-here : {mid : List ℕ} → Seeks w widths n T base place removed inserted i t ms mid → Matched e old new (suc i) (getD mid i 0)
       sought-here (Seeks.void z) = s .void (suc i) q m u i f h refl (omega (arith, at-below-parent (omega arith) h)) (sym width-is ∙ z)
       sought-here (Seeks.full {v = v} z x) = rw (getD-set-same ms i v 0 long) (sourced (some-of (own f) (λ o. z (width-is ∙ o))) x)
+      sought-here (Seeks.front l) =
+          let o : i + 1 ≡ suc i = omega arith in
+          let one : 1 ≤ suc i = omega arith in
+          rw (getD-set-same ms i (i + 1) 0 long, o) (Matched.keeps one (fronts (suc i) q m u f h (omega (arith, token-is, numbers .place-is))))
 
       pub sought-there : {mid : List ℕ} → Seeks w widths n T base place removed inserted i t ms mid → (y : ℕ) → (y ≡ i → ⊥) → getD mid y 0 ≡ getD ms y 0
       sought-there (Seeks.void z) y d = refl
       sought-there (Seeks.full {v = v} z x) y d = getD-set-other ms i y v 0 d
+      sought-there (Seeks.front l) y d = getD-set-other ms i y (i + 1) 0 d
 
       -- it keeps nothing, and hands nothing on
       turned-alone : {mid : List ℕ} → Seeks w widths n T base place removed inserted i t ms mid → getD mid i 0 ≡ 0 → Status e old new (i + 1) mid
@@ -411,14 +424,14 @@ module _ {rows w : List ℕ} {n base k : ℕ} {ends widths : List ℕ} {T : ℕ}
 
 -- a turn
 pub status-turn : {rows w : List ℕ} {n base k : ℕ} {ends widths : List ℕ} {T : ℕ} {starts : List ℕ} {place removed inserted : ℕ} {e : Edit} {i t i' t' : ℕ} {ms ms' : List ℕ} → Ready rows w n base k ends widths T starts
-    → Numbers e place removed inserted → KeepsOne e (treeIn rows w n 0) (treeIn rows w k base) → Carries e (treeIn rows w n 0) (treeIn rows w k base) → i < k → k ≤ length ms → Counted w base i t
+    → Numbers e place removed inserted → KeepsOne e (treeIn rows w n 0) (treeIn rows w k base) → Fronts e (treeIn rows w n 0) (treeIn rows w k base) → Carries e (treeIn rows w n 0) (treeIn rows w k base) → i < k → k ≤ length ms → Counted w base i t
     → Status e (treeIn rows w n 0) (treeIn rows w k base) i ms → Turned w ends widths n T base place removed inserted i t ms i' t' ms' → Status e (treeIn rows w n 0) (treeIn rows w k base) i' ms'
-status-turn {rows} {w} {base = base} {k = k} {i = i} r s one all l long c h (Turned.alone x z g) =
+status-turn {rows} {w} {base = base} {k = k} {i = i} r s one fronts all l long c h (Turned.alone x z g) =
     let o : Numbered 1 0 0 0 (treeIn rows w k base) (suc i) = at-node (treeIn rows w k base) (suc i) (omega arith) (omega (arith, built-size rows w k base)) in
-    rw (g .node) (turned-alone r s (o .node) c h (omega arith) x z)
-status-turn {rows} {w} {base = base} {k = k} {i = i} r s one all l long c h (Turned.handed j x z y g) =
+    rw (g .node) (turned-alone r s (o .node) c fronts h (omega arith) x z)
+status-turn {rows} {w} {base = base} {k = k} {i = i} r s one fronts all l long c h (Turned.handed j x z y g) =
     let o : Numbered 1 0 0 0 (treeIn rows w k base) (suc i) = at-node (treeIn rows w k base) (suc i) (omega arith) (omega (arith, built-size rows w k base)) in
-    rw (g .node) (turned-handed r s (o .node) c h (omega arith) one j x z y)
-status-turn {rows} {w} {base = base} {k = k} {i = i} r s one all l long c h (Turned.carried j x z g y v) =
+    rw (g .node) (turned-handed r s (o .node) c fronts h (omega arith) one j x z y)
+status-turn {rows} {w} {base = base} {k = k} {i = i} r s one fronts all l long c h (Turned.carried j x z g y v) =
     let o : Numbered 1 0 0 0 (treeIn rows w k base) (suc i) = at-node (treeIn rows w k base) (suc i) (omega arith) (omega (arith, built-size rows w k base)) in
-    turned-carried r s (o .node) c h (omega arith) all j x z g y
+    turned-carried r s (o .node) c fronts h (omega arith) all j x z g y

@@ -17,7 +17,7 @@ use Rattle.matching.specs.Measure.{treeIn, Built, built-size, Measured, 
 use Rattle.matching.specs.Finding.{leavesTo, leaves-next, Leaved, Started, Numbers}
 use Rattle.matching.specs.Handing.{Rising, Few, Handed}
 use Rattle.matching.specs.Kids.{back-some}
-use Rattle.matching.specs.Matching.{Matched, Status, Stepped, Turned, Ready, Counted, KeepsOne, Carries, void-below, status-turn}
+use Rattle.matching.specs.Matching.{Matched, Status, Stepped, Turned, Ready, Counted, KeepsOne, Fronts, Carries, void-below, status-turn}
 
 -- every entry is 0
 pub record Blank (ms : List ℕ) : Type 0 where
@@ -121,18 +121,18 @@ module _ {rows w : List ℕ} {n base k : ℕ} {ends widths : List ℕ} {T : ℕ}
 pub record Through (w : List ℕ) (n base k : ℕ) (ends widths : List ℕ) (T : ℕ) (starts : List ℕ) (place removed inserted i t : ℕ) (ms : List ℕ) : Type 0 where
   pub counted : Counted w base i t
   pub status : (rows : List ℕ) (e : Edit) → Ready rows w n base k ends widths T starts → Numbers e place removed inserted → KeepsOne e (treeIn rows w n 0) (treeIn rows w k base)
-      → Carries e (treeIn rows w n 0) (treeIn rows w k base) → Status e (treeIn rows w n 0) (treeIn rows w k base) i ms
+      → Fronts e (treeIn rows w n 0) (treeIn rows w k base) → Carries e (treeIn rows w n 0) (treeIn rows w k base) → Status e (treeIn rows w n 0) (treeIn rows w k base) i ms
 
 -- all were
 pub record Matches (w : List ℕ) (n base k : ℕ) (ends widths : List ℕ) (T : ℕ) (starts : List ℕ) (place removed inserted : ℕ) (ms : List ℕ) : Type 0 where
   pub matched : (rows : List ℕ) (e : Edit) → Ready rows w n base k ends widths T starts → Numbers e place removed inserted → KeepsOne e (treeIn rows w n 0) (treeIn rows w k base)
-      → Carries e (treeIn rows w n 0) (treeIn rows w k base) → (i : ℕ) → i < k → Matched e (treeIn rows w n 0) (treeIn rows w k base) (suc i) (getD ms i 0)
+      → Fronts e (treeIn rows w n 0) (treeIn rows w k base) → Carries e (treeIn rows w n 0) (treeIn rows w k base) → (i : ℕ) → i < k → Matched e (treeIn rows w n 0) (treeIn rows w k base) (suc i) (getD ms i 0)
 
 pub through-start : (w : List ℕ) (n base k : ℕ) (ends widths : List ℕ) (T : ℕ) (starts : List ℕ) (place removed inserted : ℕ) {ms₀ ms : List ℕ} → 1 ≤ n → 1 ≤ length ms₀ → Blank ms₀ → Handed widths base 0 base ms₀ ms
     → Through w n base k ends widths T starts place removed inserted 0 0 ms
 through-start w n base k ends widths T starts place removed inserted l o b h =
     let z : base + 0 ≡ base = omega arith in
-    record { counted = record { is = rw z (omega arith) }; status = λ rows e r s one all. status-start r e b o l h }
+    record { counted = record { is = rw z (omega arith) }; status = λ rows e r s one fronts all. status-start r e b o l h }
 
 -- of the first i nodes no more than i are leaves
 leaves-few : (w : List ℕ) (base i : ℕ) → leavesTo w (base + i) ≤ leavesTo w base + i
@@ -152,7 +152,7 @@ through-few {w} {base = base} {i = i} h = omega (arith, h .counted .is, leaves-f
 pub through-turn : {w : List ℕ} {n base k : ℕ} {ends widths : List ℕ} {T : ℕ} {starts : List ℕ} {place removed inserted i t i' t' : ℕ} {ms ms' : List ℕ} → Through w n base k ends widths T starts place removed inserted i t ms
     → i < k → k ≤ length ms → Leaved w ends widths base (base + k) → Turned w ends widths n T base place removed inserted i t ms i' t' ms' → Through w n base k ends widths T starts place removed inserted i' t' ms'
 through-turn {w} {base = base} {ends = ends} {widths = widths} {i = i} {t = t} h l long v x =
-    record { counted = counted x; status = λ rows e r s one all. status-turn r s one all l long (h .counted) (h .status rows e r s one all) x }
+    record { counted = counted x; status = λ rows e r s one fronts all. status-turn r s one fronts all l long (h .counted) (h .status rows e r s one fronts all) x }
   where
     stepped : {i' t' : ℕ} → Stepped w base i t i' t' → Counted w base i' t'
     stepped g =
@@ -168,16 +168,16 @@ pub through-end : {w : List ℕ} {n base k : ℕ} {ends widths : List ℕ} {T : 
     → Matches w n base k ends widths T starts place removed inserted ms
 through-end {w} {n} {base} {k} h l =
     record {
-      matched = λ rows e r s one all y o.
+      matched = λ rows e r s one fronts all y o.
           let d : Numbered 1 0 0 0 (treeIn rows w k base) (suc y) = at-node (treeIn rows w k base) (suc y) (omega arith) (omega (arith, built-size rows w k base)) in
-          h .status rows e r s one all .done (suc y) (d .parent) (d .child) (d .token) y (d .forest) (d .node) refl (omega arith);
+          h .status rows e r s one fronts all .done (suc y) (d .parent) (d .child) (d .token) y (d .forest) (d .node) refl (omega arith);
     }
 
 -- ---- from the beginning
 
 -- for each new node the old one whose slot it keeps
 pub record Matching (rows w : List ℕ) (n base k place removed inserted : ℕ) (ms : List ℕ) : Type 0 where
-  pub matched : (e : Edit) → Numbers e place removed inserted → KeepsOne e (treeIn rows w n 0) (treeIn rows w k base) → Carries e (treeIn rows w n 0) (treeIn rows w k base) → (i : ℕ) → i < k
+  pub matched : (e : Edit) → Numbers e place removed inserted → KeepsOne e (treeIn rows w n 0) (treeIn rows w k base) → Fronts e (treeIn rows w n 0) (treeIn rows w k base) → Carries e (treeIn rows w n 0) (treeIn rows w k base) → (i : ℕ) → i < k
       → Matched e (treeIn rows w n 0) (treeIn rows w k base) (suc i) (getD ms i 0)
 
 pub rising-new : (rows w : List ℕ) (n base : ℕ) {ends₀ widths₀ ends widths : List ℕ} → Gauged (treeIn rows w n base) base 0 ends₀ widths₀ ends widths → Rising ends base (base + n)
@@ -202,4 +202,4 @@ module _ (rows w : List ℕ) (n base k : ℕ) {ends₀ widths₀ ends₁ widths�
   matched-all {T} {starts} b c d s m =
       let r : Ready rows w n base k ends widths T starts =
       record { old-built = b; new-built = c; old-measured = old-measured; new-measured = h .measured; started = s; one-tree = d } in
-      record { matched = λ e u one all. m .matched rows e r u one all }
+      record { matched = λ e u one fronts all. m .matched rows e r u one fronts all }

@@ -1,6 +1,7 @@
 // Which old node's slot each new node keeps. The old tree's nodes and the new tree's stand in the work area, the new ones from node `slots` on; a node is known by its index there.
 // Of each node the index behind its subtree (`end`) and the number of its tokens (`width`) are noted, from the last node to the first. Then the new nodes are
-// gone through in preorder: one with tokens looks for the old node that starts with the same token, and hands on to its children without tokens.
+// gone through in preorder: one with tokens looks for the old node that starts with the same token (before the place it is the one of the same number),
+// and hands on to its children without tokens.
 // A kept node that the edit doesn't touch has the old node's very subtree: all of it is kept node by node, and need not be gone through.
 ghost use mathlib.Core.Path.{_≡_};
 ghost use Prim.Native.Nat.{_+_, _-_, _<_, _≤_};
@@ -202,6 +203,12 @@ fn seek(
 {
     if width == 0 {
         return notes::match_of(work, slots, i);
+    }
+    if i < n {
+        if t < place {
+            notes::set_match(work, slots, i, i + 1);
+            return i + 1;
+        }
     }
     let x = notes::symbol_in(work, slots, slots + i);
     let v = source(work, n, slots, tokens, place, removed, inserted, t, x);
