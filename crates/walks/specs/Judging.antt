@@ -6,15 +6,17 @@ use mathlib.Core.Logic.{_⊎_, ⊎-elim}
 use mathlib.Core.List.{List, _∷_}
 use lib.ListN.{length, getD, set}
 use native.Mathlib.Omega.{arith}
+use Rattle.base.specs.Choose.{never}
 use Rattle.base.specs.Tells.{Tells, tells-yes, tells-no}
 use Rattle.base.specs.Bytes.{byteAt, get16}
 use Rattle.grammar.specs.Grammar.{TerminalOf}
 use Rattle.grammar.specs.Rows.{leftAt}
 use Rattle.grammar.specs.RowRules.{bodyAt}
 use Rattle.trees.specs.Area.{slotSize, tagSpace}
+use Rattle.trees.specs.Nodes.{leafOf}
 use Rattle.trees.specs.Listing.{nodeOf, Put}
 use Rattle.walks.specs.declared.Kids.{Kids}
-use Rattle.walks.specs.declared.Kids.the-variants.{Body, Unfit}
+use Rattle.walks.specs.declared.Kids.the-variants.{Leaf, Body, Unfit}
 use Rattle.walks.specs.Slots.{symbolIn, productionIn, parentIn, tagIn, fields, Known, Used, slot-used}
 use Rattle.walks.specs.Digits.{Digits, digits-head}
 use Rattle.walks.specs.Words.{wordCount, Worded}
@@ -73,9 +75,9 @@ pub ruleset suiting = (suits-mark, suits-spare, suits-parent)
 
 -- ---- the children
 
--- the children of a node with symbol x, production p and tag g have the symbols of a body, or there is no such node
+-- a node with symbol x, production p and tag g is a leaf, or its children have the symbols of a body, or there is no such node
 pub data Kin (rows : List ℕ) (t count x p g : ℕ) : Kids → Type 0 where
-  leaf : p ≡ 0 → TerminalOf t x → Kin rows t count x p g (Body 0)
+  leaf : p ≡ 0 → TerminalOf t x → Kin rows t count x p g Leaf
   node : {q r : ℕ} → p ≡ suc q → q < count → leftAt rows q ≡ x → g ≡ 0 → Digits (bodyAt rows q) r → Kin rows t count x p g (Body r)
   none : (p ≡ 0 → TerminalOf t x → ⊥) → ((q : ℕ) → p ≡ suc q → q < count → leftAt rows q ≡ x → g ≡ 0 → ⊥) → Kin rows t count x p g Unfit
 
@@ -91,7 +93,7 @@ module _ (rows ws : List ℕ) (t count x p g : ℕ) where
   pub kin-over : p ≡ 0 → t < x → Kin rows t count x p g Unfit
   kin-over e z = Kin.none (λ _ h. omega (arith, h .1, z)) (λ q i. omega (arith, e, i))
 
-  pub kin-leaf : p ≡ 0 → (x ≡ 0 → ⊥) → x ≤ t → Kin rows t count x p g (Body 0)
+  pub kin-leaf : p ≡ 0 → (x ≡ 0 → ⊥) → x ≤ t → Kin rows t count x p g Leaf
   kin-leaf e z l = Kin.leaf e (omega (arith, z), l)
 
   module _ (h : Worded rows count ws) (n : p ≡ 0 → ⊥) (low : p < wordCount) where
@@ -115,18 +117,27 @@ module _ (rows ws : List ℕ) (t count x p g : ℕ) where
 
 pub ruleset kinds = (kin-zero, kin-over, kin-leaf, kin-left, kin-tag, kin-node)
 
+-- the children's symbols are the digits of r, none for a leaf, which counts as 1
+pub data Counts : Kids → ℕ → ℕ → Type 0 where
+  leaf : Counts Leaf 0 1
+  body : {r : ℕ} → Counts (Body r) r 0
+
+pub kin-counts : {rows : List ℕ} {t count x p g r leaf : ℕ} {k : Kids} → Kin rows t count x p g k → Counts k r leaf → leaf ≡ leafOf p
+kin-counts (Kin.leaf e h) Counts.leaf = sym (ap leafOf e)
+kin-counts (Kin.node e l o z d) Counts.body = sym (ap leafOf e)
+
 -- ---- the visit
 
--- slot s is the node that is expected, and its children have the symbols of r
-pub record Meets (rows : List ℕ) (t count : ℕ) (b : List ℕ) (s par x r : ℕ) : Type 0 where
+-- slot s is the node that is expected, and this is found of its children
+pub record Meets (rows : List ℕ) (t count : ℕ) (b : List ℕ) (s par x : ℕ) (k : Kids) : Type 0 where
   pub suits : Suits b s par x
-  pub kin : Kin rows t count x (productionIn b s) (tagIn b s) (Body r)
+  pub kin : Kin rows t count x (productionIn b s) (tagIn b s) k
   pub tag : tagIn b s < tagSpace
 
 -- slot s was written as node i and marked, or it is none of the area, or marked, or not the node that is expected
 pub data Visited (rows : List ℕ) (t count S : ℕ) (b : List ℕ) (s par x : ℕ) (w : List ℕ) (i : ℕ) (w' : List ℕ) : Kids → Type 0 where
-  body : {r : ℕ} {v : List ℕ} → s ≤ S → byteAt w (marksAt S + s) ≡ 0 → Meets rows t count b s par x r → Put w i (nodeOf s (symbolIn b s) (productionIn b s) (tagIn b s)) v
-      → w' ≡ set v (marksAt S + s) 1 → Visited rows t count S b s par x w i w' (Body r)
+  met : {k : Kids} {v : List ℕ} → (k ≡ Unfit → ⊥) → s ≤ S → byteAt w (marksAt S + s) ≡ 0 → Meets rows t count b s par x k
+      → Put w i (nodeOf s (symbolIn b s) (productionIn b s) (tagIn b s)) v → w' ≡ set v (marksAt S + s) 1 → Visited rows t count S b s par x w i w' k
   over : S < s → Visited rows t count S b s par x w i w' Unfit
   marked : s ≤ S → (byteAt w (marksAt S + s) ≡ 0 → ⊥) → Visited rows t count S b s par x w i w' Unfit
   unfit : (Suits b s par x → Kin rows t count x (productionIn b s) (tagIn b s) Unfit) → Visited rows t count S b s par x w i w' Unfit
@@ -146,8 +157,24 @@ module _ (rows : List ℕ) (t count S : ℕ) (b : List ℕ) (s par x : ℕ) (w :
       pub visited-unfit : r ≡ Unfit → Visited rows t count S b s par x w i w Unfit
       visited-unfit e = Visited.unfit (λ f. rw (e, ep, eg) at k)
 
-      pub visited-body : byteAt w (at + s) ≡ 0 → (u : Bool) → Tells (Suits b s par x) u → u ≡ true → (y : ℕ) → r ≡ Body y → g < tagSpace → (w1 w' : List ℕ)
-          → Put w i (nodeOf s (v % 256) (v / 256) g) w1 → w' ≡ set w1 (at + s) 1 → Visited rows t count S b s par x w i w' (Body y)
-      visited-body z u h e y er lg w1 w' put ew =
-          let meets : Meets rows t count b s par x y = record { suits = h .yes e; kin = rw (er, ep, eg) at k; tag = rw eg at lg } in
-          Visited.body l (rw ea at z) meets (rw (both-in b s v ev known .0, ep, eg) at put) (rw ea at ew)
+      module _ (z : byteAt w (at + s) ≡ 0) (u : Bool) (h : Tells (Suits b s par x) u) (e : u ≡ true) (lg : g < tagSpace) (w1 w' : List ℕ) (ew : w' ≡ set w1 (at + s) 1) where
+        visited-met : {o : Kids} → r ≡ o → (o ≡ Unfit → ⊥) → Put w i (nodeOf s (v % 256) (v / 256) g) w1 → Visited rows t count S b s par x w i w' o
+        visited-met {o} er n put =
+            let meets : Meets rows t count b s par x o = record { suits = h .yes e; kin = rw (er, ep, eg) at k; tag = rw eg at lg } in
+            Visited.met n l (rw ea at z) meets (rw (both-in b s v ev known .0, ep, eg) at put) (rw ea at ew)
+
+        pub visited-leaf : r ≡ Leaf → Put w i (nodeOf s (v % 256) 0 g) w1 → Visited rows t count S b s par x w i w' Leaf
+        visited-leaf er put = visited-met er (λ y. never (cc)) (rw (go k er) put)
+          where
+            go : {o : Kids} → Kin rows t count x (v / 256) g o → o ≡ Leaf → v / 256 ≡ 0
+            go (Kin.leaf y q) er = y
+            go (Kin.node y q a c d) er = never (cc)
+            go (Kin.none y q) er = never (cc)
+
+        pub visited-body : (y : ℕ) → r ≡ Body y → Put w i (nodeOf s (v % 256) (v / 256) 0) w1 → Visited rows t count S b s par x w i w' (Body y)
+        visited-body y er put = visited-met er (λ y. never (cc)) (rw (go k er) put)
+          where
+            go : {o : Kids} → Kin rows t count x (v / 256) g o → o ≡ Body y → g ≡ 0
+            go (Kin.leaf y q) er = never (cc)
+            go (Kin.node y q a c d) er = c
+            go (Kin.none y q) er = never (cc)

@@ -10,12 +10,13 @@ use Rattle.grammar.specs.RowRules.{bodyAt, rule-at, rule-row}
 use Rattle.trees.specs.Area.{slotBytes, slotAt}
 use Rattle.trees.specs.Nodes.{Node, leafNode, innerNode}
 use Rattle.trees.specs.Listing.{nodeOf}
-use Rattle.walks.specs.declared.Kids.the-variants.{Body, Unfit}
+use Rattle.walks.specs.declared.Kids.{Kids}
+use Rattle.walks.specs.declared.Kids.the-variants.{Unfit}
 use Rattle.walks.specs.Slots.{symbolIn, productionIn, parentIn, firstIn, nextIn, tagIn, fields, Used, fields-used}
 use Rattle.walks.specs.Frames.{Frame, frame, Stands, Walks}
 use Rattle.walks.specs.Going.{Stuck, blocked}
 use Rattle.walks.specs.Digits.{Digits, digits-none}
-use Rattle.walks.specs.Judging.{Suits, Kin, Meets}
+use Rattle.walks.specs.Judging.{Suits, Kin, Counts, Meets}
 
 module _ (rows : List ℕ) (t n start count : ℕ) where
   abbrev pub G· : Grammar
@@ -82,13 +83,13 @@ module _ (rows : List ℕ) (t n start count : ℕ) where
           go (Seen.leaf u i p o w y h) = blocked fs behind m z h (frame 0 s [] ∷ []) refl
           go (Seen.node {q = q} u i p o w y g h) = blocked fs behind m z h (frame (firstIn b s) s (bodyAt rows q) ∷ []) refl
 
-      pub stuck-below : {r : ℕ} → Meets rows t count b s par x r → r ≡ 0 → (firstIn b s ≡ 0 → ⊥) → Stuck G· S b (ahead ∷ fs)
-      stuck-below h z m = stuck-seen (go (h .kin) z)
+      pub stuck-below : {k : Kids} {r leaf : ℕ} → Meets rows t count b s par x k → Counts k r leaf → r ≡ 0 → (firstIn b s ≡ 0 → ⊥) → Stuck G· S b (ahead ∷ fs)
+      stuck-below h c z m = stuck-seen (go (h .kin) c z)
         where
-          go : {v : ℕ} → Kin rows t count x (productionIn b s) (tagIn b s) (Body v) → v ≡ 0 → Seen S b s par x xs fs → ⊥
-          go k z (Seen.leaf u i p o w y h) = m y
-          go (Kin.leaf z' w') z (Seen.node {q = q} u i p o w y g h) = omega (arith, o, z')
-          go (Kin.node {q = q'} z' w' y' g' d) z (Seen.node {q = q} u i p o w y g h) =
+          go : {k : Kids} {v l : ℕ} → Kin rows t count x (productionIn b s) (tagIn b s) k → Counts k v l → v ≡ 0 → Seen S b s par x xs fs → ⊥
+          go k c z (Seen.leaf u i p o w y h) = m y
+          go (Kin.leaf z' w') Counts.leaf z (Seen.node {q = q} u i p o w y g h) = omega (arith, o, z')
+          go (Kin.node {q = q'} z' w' y' g' d) Counts.body z (Seen.node {q = q} u i p o w y g h) =
               let a : q' ≡ q = omega (arith, o, z') in
               let c : bodyAt rows q ≡ [] = rw a at (digits-none d z) in
               blocked (behind ∷ fs) (frame (firstIn b s) s (bodyAt rows q)) m c h [] refl
@@ -96,20 +97,20 @@ module _ (rows : List ℕ) (t n start count : ℕ) where
     -- ---- the node that stands there
 
     -- a node without children
-    pub stands-bare : {r : ℕ} → Meets rows t count b s par x r → r ≡ 0 → firstIn b s ≡ 0 → nextIn b s < 65536 → Stands G· b ahead written (frame 0 s []) behind
+    pub stands-bare : {k : Kids} {r leaf : ℕ} → Meets rows t count b s par x k → Counts k r leaf → r ≡ 0 → firstIn b s ≡ 0 → nextIn b s < 65536 → Stands G· b ahead written (frame 0 s []) behind
     unfolding grammarIn
-    stands-bare h e o ln = go (h .kin) e
+    stands-bare h k e o ln = go (h .kin) k e
       where
         f : Suits b s par x
         f = h .suits
 
-        go : {v : ℕ} → Kin rows t count x (productionIn b s) (tagIn b s) (Body v) → v ≡ 0 → Stands G· b ahead written (frame 0 s []) behind
-        go (Kin.leaf z y) e =
+        go : {k : Kids} {v l : ℕ} → Kin rows t count x (productionIn b s) (tagIn b s) k → Counts k v l → v ≡ 0 → Stands G· b ahead written (frame 0 s []) behind
+        go (Kin.leaf z y) Counts.leaf e =
             let q : slotAt b s ≡ slotBytes x 0 par 0 (nextIn b s) (tagIn b s) = rw (f .symbol, z, f .parent, o) at (f .used .is) in
             let a : leafNode s x (tagIn b s) ≡ written = let i = f .symbol in cc in
             let st : Stands G· b ahead (leafNode s x (tagIn b s)) (frame 0 s []) behind = Stands.leaf refl y q ln (h .tag) in
             rw a at st
-        go (Kin.node {q = q} z y a g d) e =
+        go (Kin.node {q = q} z y a g d) Counts.body e =
             let u : slotAt b s ≡ slotBytes x (suc q) par 0 (nextIn b s) 0 = rw (f .symbol, z, f .parent, o, g) at (f .used .is) in
             let c : innerNode s x (suc q) ≡ written = let i = f .symbol in cc in
             let r : Rule G· (suc q) x (bodyAt rows q) = rw a at (rule-at rows t n start count q y) in
@@ -123,16 +124,16 @@ module _ (rows : List ℕ) (t n start count : ℕ) where
       pub digits : Digits symbols r
       pub stands : Stands G· b ahead written (frame (firstIn b s) s symbols) behind
 
-    pub stands-bearing : {r : ℕ} → Meets rows t count b s par x r → (r ≡ 0 → ⊥) → firstIn b s < 65536 → nextIn b s < 65536 → Bears r
+    pub stands-bearing : {k : Kids} {r leaf : ℕ} → Meets rows t count b s par x k → Counts k r leaf → (r ≡ 0 → ⊥) → firstIn b s < 65536 → nextIn b s < 65536 → Bears r
     unfolding grammarIn
-    stands-bearing h m lf ln = go (h .kin) m
+    stands-bearing h k m lf ln = go (h .kin) k m
       where
         f : Suits b s par x
         f = h .suits
 
-        go : {v : ℕ} → Kin rows t count x (productionIn b s) (tagIn b s) (Body v) → (v ≡ 0 → ⊥) → Bears v
-        go (Kin.leaf z y) m = absurd (m refl)
-        go (Kin.node {q = q} z y a g d) m =
+        go : {k : Kids} {v l : ℕ} → Kin rows t count x (productionIn b s) (tagIn b s) k → Counts k v l → (v ≡ 0 → ⊥) → Bears v
+        go (Kin.leaf z y) Counts.leaf m = absurd (m refl)
+        go (Kin.node {q = q} z y a g d) Counts.body m =
             let u : slotAt b s ≡ slotBytes x (suc q) par (firstIn b s) (nextIn b s) 0 = rw (f .symbol, z, f .parent, g) at (f .used .is) in
             let c : innerNode s x (suc q) ≡ written = let i = f .symbol in cc in
             let r : Rule G· (suc q) x (bodyAt rows q) = rw a at (rule-at rows t n start count q y) in

@@ -12,12 +12,12 @@ use Rattle.grammar.specs.Each.{Each, each-join, each-head}
 use Rattle.grammar.specs.Grammar.{Grammar}
 use Rattle.grammar.specs.Rows.{grammarIn}
 use Rattle.trees.specs.Area.{slotSize, maxSlots, areaSize}
-use Rattle.trees.specs.Nodes.{Node, leafOf}
+use Rattle.trees.specs.Nodes.{Node}
 use Rattle.trees.specs.Coded.{nodeSize, nodesFrom, length-nodes}
 use Rattle.trees.specs.Spread.{slotsOf, slots-append}
 use Rattle.trees.specs.Listing.{nodeOf, nodes-kept, put-last}
 use Rattle.walks.specs.declared.Kids.{Kids}
-use Rattle.walks.specs.declared.Kids.the-variants.{Body, Unfit}
+use Rattle.walks.specs.declared.Kids.the-variants.{Leaf, Body, Unfit}
 use Rattle.walks.specs.declared.Course.{Course}
 use Rattle.walks.specs.declared.Course.the-variants.{Through, Astray}
 use Rattle.walks.specs.Slots.{symbolIn, productionIn, firstIn, nextIn, tagIn}
@@ -26,9 +26,22 @@ use Rattle.walks.specs.Marks.{Marked, marked-none, marked-more, marked-r
 use Rattle.walks.specs.Going.{Waits, Kept, Turn, Going, Lost, going-start, going-turn, lost-stuck, lost-over, lost-marked}
 use Rattle.walks.specs.Reading.{leafCount, leaves-append, leaves-few, rootFrame}
 use Rattle.walks.specs.Digits.{Digits, Split, digits-none, digits-split, digits-some}
-use Rattle.walks.specs.Judging.{Meets, Visited}
+use Rattle.walks.specs.Judging.{Counts, kin-counts, Meets, Visited}
 use Rattle.walks.specs.Stacked.{placeOf, marksAt, workSize, restAt, Held, held-same, Framed, marksIn, length-marks, mark-at, marks-set, marks-same}
 use Rattle.walks.specs.Turning.{ahead, behind, written, Bears, stuck-unfit, stuck-behind, stuck-below, stands-bare, stands-bearing}
+
+-- with this found of a node's children, their symbols are the digits of `body`, and there are so many leaves then
+pub record Taken (k : Kids) (leaves body leaves' : ℕ) : Type 0 where
+  leaf : ℕ
+  counts : Counts k body leaf
+  sum : leaves' ≡ leaves + leaf
+
+module _ {k : Kids} (leaves body leaves' : ℕ) where
+  pub taken-leaf : k ≡ Leaf → body ≡ 0 → leaves' ≡ leaves + 1 → Taken k leaves body leaves'
+  taken-leaf e z o = record { leaf = 1; counts = rw (e, z) Counts.leaf; sum = o }
+
+  pub taken-body : (r : ℕ) → k ≡ Body r → body ≡ r → leaves' ≡ leaves → Taken k leaves body leaves'
+  taken-body r e z o = record { leaf = 0; counts = rw (e, z) Counts.body; sum = omega (arith, o) }
 
 length-slotsOf : (es : List Node) → length (slotsOf es) ≡ length es
 length-slotsOf [] = refl
@@ -90,16 +103,19 @@ module _ (rows : List ℕ) (t n start count S : ℕ) (b : List ℕ) where
       }
 
   -- slot s was written as node i and marked
-  record Entered (w : List ℕ) (i s par x r : ℕ) (w' : List ℕ) : Type 0 where
+  record Entered (w : List ℕ) (i s par x : ℕ) (k : Kids) (w' : List ℕ) : Type 0 where
     within : s ≤ S
     free : byteAt (marksIn S w) s ≡ 0
-    meets : Meets rows t count b s par x r
+    meets : Meets rows t count b s par x k
     nodes : nodesFrom w' (i + 1) 0 ≡ nodesFrom w i 0 ++ (nodeOf s (symbolIn b s) (productionIn b s) (tagIn b s) ∷ [])
     marks : marksIn S w' ≡ set (marksIn S w) s 1
     others : (j : ℕ) → nodeSize * i + nodeSize ≤ j → j < marksAt S → byteAt w' j ≡ byteAt w j
 
-  entered : {w w' : List ℕ} {i s par x r : ℕ} → i ≤ S → Visited rows t count S b s par x w i w' (Body r) → Entered w i s par x r w'
-  entered {w} {w'} {i} {s} li (Visited.body {v = v} l z h p e) =
+  entered : {w w' : List ℕ} {i s par x : ℕ} {k : Kids} → i ≤ S → (k ≡ Unfit → ⊥) → Visited rows t count S b s par x w i w' k → Entered w i s par x k w'
+  entered {w} {w'} {i} {s} li n (Visited.over y) = absurd (n refl)
+  entered {w} {w'} {i} {s} li n (Visited.marked y z) = absurd (n refl)
+  entered {w} {w'} {i} {s} li n (Visited.unfit y) = absurd (n refl)
+  entered {w} {w'} {i} {s} li n (Visited.met {v = v} y l z h p e) =
       let o : (j : ℕ) → j < marksAt S → byteAt w' j ≡ byteAt v j = λ j m. ap (λ (u : List ℕ). byteAt u j) e ∙ getD-set-other v (marksAt S + s) j 1 0 (omega arith) in
       let q : marksIn S w' ≡ set (marksIn S v) s 1 = ap (marksIn S) e ∙ marks-set S v s 1 l in
       let y : marksIn S v ≡ marksIn S w = marks-same S w v (p .long) (λ j m. p .behind j (omega arith)) in
@@ -123,14 +139,18 @@ module _ (rows : List ℕ) (t n start count S : ℕ) (b : List ℕ) where
       wandered-unfit w' e = Wandered.astray (go v e)
         where
           go : {r : Kids} → Visited rows t count S b s par x w i w1 r → r ≡ Unfit → Lost gram S b origin
-          go (Visited.body l z m p q) e = never (cc)
+          go (Visited.met n l z m p q) e = absurd (n e)
           go (Visited.over z) e = lost-over (nodesFrom w i 0) (h .gone .going) z
           go (Visited.marked l z) e = lost-marked (nodesFrom w i 0) (h .gone .going) (marksIn S w) (h .gone .marked) (λ o. z (sym (mark-at S w s l) ∙ o))
           go (Visited.unfit z) e = lost-stuck (nodesFrom w i 0) (h .gone .going) (stuck-unfit rows t n start count S b s par x (h .symbols) (h .frames) (h .low) z)
 
-      module _ (body : ℕ) (er : r ≡ Body body) where
-        en : Entered w i s par x body w1
-        en = entered (h .room) (rw er at v)
+      module _ {body leaves' : ℕ} (tk : Taken r leaves body leaves') where
+        en : Entered w i s par x r w1
+        en = entered (h .room) (go (tk .counts)) v
+          where
+            go : {k : Kids} {u l : ℕ} → Counts k u l → k ≡ Unfit → ⊥
+            go Counts.leaf e = never (cc)
+            go Counts.body e = never (cc)
 
         pub wandered-behind : (w' : List ℕ) (u : ℕ) → u ≡ nextIn b s → (u ≡ 0 → ⊥) → rest ≡ 0 → Wandered w' Astray
         wandered-behind w' u e z y =
@@ -138,7 +158,7 @@ module _ (rows : List ℕ) (t n start count S : ℕ) (b : List ℕ) where
 
         pub wandered-below : (w' : List ℕ) (u : ℕ) → u ≡ firstIn b s → (u ≡ 0 → ⊥) → body ≡ 0 → Wandered w' Astray
         wandered-below w' u e z y =
-            Wandered.astray (lost-stuck (nodesFrom w i 0) (h .gone .going) (stuck-below rows t n start count S b s par x (h .symbols) (h .frames) (h .low) (en .meets) y (λ o. z (e ∙ o))))
+            Wandered.astray (lost-stuck (nodesFrom w i 0) (h .gone .going) (stuck-below rows t n start count S b s par x (h .symbols) (h .frames) (h .low) (en .meets) (tk .counts) y (λ o. z (e ∙ o))))
 
         -- ---- a turn
 
@@ -157,7 +177,7 @@ module _ (rows : List ℕ) (t n start count S : ℕ) (b : List ℕ) where
         walking-room =
             omega (arith, marked-room S (marksIn S w) (nodesFrom w i 0) s (h .gone .marked) (h .gone .within) some (en .free), length-slotsOf (nodesFrom w i 0), length-nodes w i 0)
 
-        module _ (lw : workSize S ≤ length w) (few : S ≤ maxSlots) (leaf first next : ℕ) (el : leaf ≡ leafOf (productionIn b s)) (ef : first ≡ firstIn b s) (ex : next ≡ nextIn b s)
+        module _ (lw : workSize S ≤ length w) (few : S ≤ maxSlots) (first next : ℕ) (ef : first ≡ firstIn b s) (ex : next ≡ nextIn b s)
             (lf : first < 65536) (ln : next < 65536) where
           abbrev e : Node
           e = written rows t n start count S b s par x (h .symbols)
@@ -168,7 +188,7 @@ module _ (rows : List ℕ) (t n start count S : ℕ) (b : List ℕ) where
           abbrev g : Frame
           g = behind rows t n start count S b s par x (h .symbols)
 
-          turned : {hs : List Frame} → Turn gram S b f (h .frames) e hs → Gone w1 (i + 1) (leaves + leaf) hs
+          turned : {hs : List Frame} → Turn gram S b f (h .frames) e hs → Gone w1 (i + 1) leaves' hs
           turned y =
               let d = en .nodes in
               let a = h .gone in
@@ -178,7 +198,7 @@ module _ (rows : List ℕ) (t n start count S : ℕ) (b : List ℕ) where
                 going = rw d (going-turn (nodesFrom w i 0) e y (a .going));
                 marked = rw (d, en .marks) (marked-more (marksIn S w) (nodesFrom w i 0) e s refl ls (en .free) (a .marked));
                 within = rw (d, slots-append (nodesFrom w i 0) (e ∷ [])) o;
-                counted = rw d (omega (arith, a .counted, leaves-append (nodesFrom w i 0) (e ∷ []), el));
+                counted = rw d (omega (arith, a .counted, leaves-append (nodesFrom w i 0) (e ∷ []), tk .sum, kin-counts (en .meets .kin) (tk .counts)));
               }
 
           -- the frames stay
@@ -187,9 +207,9 @@ module _ (rows : List ℕ) (t n start count S : ℕ) (b : List ℕ) where
 
           module _ (eb : body ≡ 0) (zf : first ≡ 0) where
             -- the next of the siblings
-            pub walking-next : (rest ≡ 0 → ⊥) → Walking w1 top (i + 1) (leaves + leaf) next par (rest % 64) (rest / 128)
+            pub walking-next : (rest ≡ 0 → ⊥) → Walking w1 top (i + 1) leaves' next par (rest % 64) (rest / 128)
             walking-next nr =
-                let st = stands-bare rows t n start count S b s par x (h .symbols) (en .meets) eb (sym ef ∙ zf) (rw ex at ln) in
+                let st = stands-bare rows t n start count S b s par x (h .symbols) (en .meets) (tk .counts) eb (sym ef ∙ zf) (rw ex at ln) in
                 let q = digits-split (h .digits) nr in
                 let wt : Waits g = record { some = λ y. never (let o = q .is in cc) } in
                 let y : Turn gram S b f (h .frames) e (g ∷ h .frames) =
@@ -209,17 +229,17 @@ module _ (rows : List ℕ) (t n start count S : ℕ) (b : List ℕ) where
                   low = h .low;
                 }
 
-            up : rest ≡ 0 → next ≡ 0 → Gone w1 (i + 1) (leaves + leaf) (h .frames)
+            up : rest ≡ 0 → next ≡ 0 → Gone w1 (i + 1) leaves' (h .frames)
             up zr zn =
-                let st = stands-bare rows t n start count S b s par x (h .symbols) (en .meets) eb (sym ef ∙ zf) (rw ex at ln) in
+                let st = stands-bare rows t n start count S b s par x (h .symbols) (en .meets) (tk .counts) eb (sym ef ∙ zf) (rw ex at ln) in
                 turned (record { within = some; below = frame 0 s []; behind = g; stands = st; gs = h .frames; later = Kept.left (sym ex ∙ zn) (digits-none (h .digits) zr); sooner = Kept.left refl refl })
 
             -- the last frame
             pub walking-up : (rest ≡ 0) → next ≡ 0 → (top ≡ nodeSize * S → ⊥) → (s' par' u : ℕ) → s' ≡ get16 w1 (top - 12) → par' ≡ get16 w1 (top - 12 + 2) → par' < 65536 → u ≡ restAt w1 (top - 12)
-                → Walking w1 (top - 12) (i + 1) (leaves + leaf) s' par' (u % 64) (u / 128)
+                → Walking w1 (top - 12) (i + 1) leaves' s' par' (u % 64) (u / 128)
             walking-up zr zn nt s' par' u es ep lp eu = go (h .place) (h .few) kept (up zr zn)
               where
-                go : {k : ℕ} {fs : List Frame} → top ≡ placeOf S k → k ≤ i → Held w1 S k fs → Gone w1 (i + 1) (leaves + leaf) fs → Walking w1 (top - 12) (i + 1) (leaves + leaf) s' par' (u % 64) (u / 128)
+                go : {k : ℕ} {fs : List Frame} → top ≡ placeOf S k → k ≤ i → Held w1 S k fs → Gone w1 (i + 1) leaves' fs → Walking w1 (top - 12) (i + 1) leaves' s' par' (u % 64) (u / 128)
                 go pl fw Held.nil y = absurd (nt (omega (arith, pl)))
                 go pl fw (Held.cons {k = k} {s = s2} {par = p2} {ys = ys} {fs = fs} a c d o) y =
                     let z : top - 12 ≡ placeOf S k = omega (arith, pl) in
@@ -228,18 +248,18 @@ module _ (rows : List ℕ) (t n start count S : ℕ) (b : List ℕ) where
                     let eu' : u ≡ restAt w1 (placeOf S k) = rw z at eu in
                     let d' : Digits ys u = rw eu' d in
                     let q = digits-some d' (each-head (y .going .waits) .some) in
-                    let y' : Gone w1 (i + 1) (leaves + leaf) (frame s' par' ys ∷ fs) = rw (a', c') at y in
-                    let y2 : Gone w1 (i + 1) (leaves + leaf) (frame s' par' ((u % 64) ∷ q .rest) ∷ fs) =
-                    subst (λ (l : List ℕ). Gone w1 (i + 1) (leaves + leaf) (frame s' par' l ∷ fs)) (q .is) y'
+                    let y' : Gone w1 (i + 1) leaves' (frame s' par' ys ∷ fs) = rw (a', c') at y in
+                    let y2 : Gone w1 (i + 1) leaves' (frame s' par' ((u % 64) ∷ q .rest) ∷ fs) =
+                    subst (λ (l : List ℕ). Gone w1 (i + 1) leaves' (frame s' par' l ∷ fs)) (q .is) y'
                     in
                     let m = walking-room in
                     record { symbols = q .rest; frames = fs; gone = y2; digits = q .digits; k = k; held = o; place = z; few = omega (arith, fw); room = omega arith; low = lp }
 
             -- no frame waits
-            pub walking-end : (rest ≡ 0) → next ≡ 0 → top ≡ nodeSize * S → Wandered w1 (Through (i + 1) (leaves + leaf))
+            pub walking-end : (rest ≡ 0) → next ≡ 0 → top ≡ nodeSize * S → Wandered w1 (Through (i + 1) leaves')
             walking-end zr zn zt = go (h .place) kept (up zr zn)
               where
-                go : {k : ℕ} {fs : List Frame} → top ≡ placeOf S k → Held w1 S k fs → Gone w1 (i + 1) (leaves + leaf) fs → Wandered w1 (Through (i + 1) (leaves + leaf))
+                go : {k : ℕ} {fs : List Frame} → top ≡ placeOf S k → Held w1 S k fs → Gone w1 (i + 1) leaves' fs → Wandered w1 (Through (i + 1) leaves')
                 go pl Held.nil y =
                     let o = walking-room in
                     let m : i + 1 ≤ S = omega arith in
@@ -248,7 +268,7 @@ module _ (rows : List ℕ) (t n start count S : ℕ) (b : List ℕ) where
 
           module _ (nb : body ≡ 0 → ⊥) where
             bears : Bears rows t n start count S b s par x (h .symbols) body
-            bears = stands-bearing rows t n start count S b s par x (h .symbols) (en .meets) nb (rw ef at lf) (rw ex at ln)
+            bears = stands-bearing rows t n start count S b s par x (h .symbols) (en .meets) (tk .counts) nb (rw ef at lf) (rw ex at ln)
 
             apart : Split (bears .symbols) body
             apart = digits-split (bears .digits) nb
@@ -266,7 +286,7 @@ module _ (rows : List ℕ) (t n start count S : ℕ) (b : List ℕ) where
             waits = record { some = λ y. never (let o = apart .is in cc) }
 
             -- the children, with no siblings behind
-            pub walking-down : rest ≡ 0 → next ≡ 0 → Walking w1 top (i + 1) (leaves + leaf) first s (body % 64) (body / 128)
+            pub walking-down : rest ≡ 0 → next ≡ 0 → Walking w1 top (i + 1) leaves' first s (body % 64) (body / 128)
             walking-down zr zn =
                 let y : Turn gram S b f (h .frames) e (under ∷ h .frames) =
                 record { within = some; below = under; behind = g; stands = bears .stands; gs = h .frames; later = Kept.left (sym ex ∙ zn) (digits-none (h .digits) zr); sooner = Kept.kept waits }
@@ -275,7 +295,7 @@ module _ (rows : List ℕ) (t n start count S : ℕ) (b : List ℕ) where
                 record {
                   symbols = apart .rest;
                   frames = h .frames;
-                  gone = subst (λ (u : Frame). Gone w1 (i + 1) (leaves + leaf) (u ∷ h .frames)) same (turned y);
+                  gone = subst (λ (u : Frame). Gone w1 (i + 1) leaves' (u ∷ h .frames)) same (turned y);
                   digits = apart .digits;
                   k = h .k;
                   held = kept;
@@ -286,7 +306,7 @@ module _ (rows : List ℕ) (t n start count S : ℕ) (b : List ℕ) where
                 }
 
             -- the children, while the siblings behind wait
-            pub walking-push : (rest ≡ 0 → ⊥) → (w2 : List ℕ) → Framed w1 top next par rest w2 → Walking w2 (top + 12) (i + 1) (leaves + leaf) first s (body % 64) (body / 128)
+            pub walking-push : (rest ≡ 0 → ⊥) → (w2 : List ℕ) → Framed w1 top next par rest w2 → Walking w2 (top + 12) (i + 1) leaves' first s (body % 64) (body / 128)
             walking-push nr w2 fr =
                 let z = walking-room in
                 let pl = h .place in
@@ -298,7 +318,7 @@ module _ (rows : List ℕ) (t n start count S : ℕ) (b : List ℕ) where
                 let a = turned y in
                 let nodes : nodesFrom w2 (i + 1) 0 ≡ nodesFrom w1 (i + 1) 0 = nodes-kept w1 w2 (i + 1) 0 (λ j c d. fr .before j (omega arith)) in
                 let marks : marksIn S w2 ≡ marksIn S w1 = marks-same S w1 w2 (fr .long) (λ j c. fr .behind j (omega arith)) in
-                let a' : Gone w2 (i + 1) (leaves + leaf) (under ∷ g ∷ h .frames) =
+                let a' : Gone w2 (i + 1) leaves' (under ∷ g ∷ h .frames) =
                 record { going = rw nodes (a .going); marked = rw (nodes, marks) (a .marked); within = rw nodes (a .within); counted = rw nodes (a .counted) }
                 in
                 let low : Held w2 S (h .k) (h .frames) = held-same w2 (λ j c d. fr .before j (omega arith)) kept in
@@ -308,7 +328,7 @@ module _ (rows : List ℕ) (t n start count S : ℕ) (b : List ℕ) where
                 record {
                   symbols = apart .rest;
                   frames = g ∷ h .frames;
-                  gone = subst (λ (u : Frame). Gone w2 (i + 1) (leaves + leaf) (u ∷ g ∷ h .frames)) same a';
+                  gone = subst (λ (u : Frame). Gone w2 (i + 1) leaves' (u ∷ g ∷ h .frames)) same a';
                   digits = apart .digits;
                   k = suc (h .k);
                   held = up;

@@ -14,8 +14,7 @@ ghost use Rattle.grammar.specs.RowRules.{bodyAt};
 ghost use Rattle.trees.specs.Area.{slotSize, maxSlots, areaSize};
 ghost use Rattle.walks.specs.Digits.{Digits};
 ghost use Rattle.walks.specs.Words.{wordCount, Worded};
-ghost use Rattle.walks.specs.Slots.{productionIn, firstIn, nextIn};
-ghost use Rattle.trees.specs.Nodes.{leafOf};
+ghost use Rattle.walks.specs.Slots.{firstIn, nextIn};
 ghost use Rattle.walks.specs.Judging.{Suits, Kin, Visited};
 ghost use Rattle.walks.specs.Stacked.{frameSize, marksAt, workSize, get64, Long, Framed, marksIn};
 ghost use Rattle.walks.specs.Walking.{Wandered};
@@ -50,8 +49,9 @@ pub enum Walked {
     NoTree,
 }
 
-// A node's children must have the symbols of this body, or there is no such node.
+// A node is a leaf, or its children must have the symbols of this body, or there is no such node.
 enum Kids {
+    Leaf,
     Body(usize),
     Unfit,
 }
@@ -123,7 +123,7 @@ fn kin(rows: &[u8], words: &[usize], t: usize, count: usize, x: usize, p: usize,
         if t < x {
             return Kids::Unfit;
         }
-        return Kids::Body(0);
+        return Kids::Leaf;
     }
     let v = words[p];
     if v % BASE != DIGIT + x {
@@ -173,12 +173,19 @@ fn visit(
         let y = both % 256;
         let p = both / 256;
         let g = base::four(area, at + 10);
-        let Kids::Body(body) = kin(rows, words, t, count, x, p, g) else {
-            return Kids::Unfit;
-        };
-        trees::put_node(w, i, s, y, p, g);
-        w[mark] = 1;
-        return Kids::Body(body);
+        match kin(rows, words, t, count, x, p, g) {
+            Kids::Leaf => {
+                trees::put_node(w, i, s, y, 0, g);
+                w[mark] = 1;
+                return Kids::Leaf;
+            }
+            Kids::Body(body) => {
+                trees::put_node(w, i, s, y, p, 0);
+                w[mark] = 1;
+                return Kids::Body(body);
+            }
+            Kids::Unfit => return Kids::Unfit,
+        }
     }
     Kids::Unfit
 }
@@ -210,7 +217,7 @@ fn put_frame(w: &mut [u8], at: usize, s: usize, par: usize, rest: usize)
     put_eight(w, at + 4, rest);
 }
 
-// Of slot s: its first child's slot, its next sibling's, and 1 for a leaf.
+// Of slot s: its first child's slot and its next sibling's.
 fn first_in(area: &[u8], s: usize) -> usize
     requires { ⌜ slotSize * s + slotSize ≤ length (now area) ⌝ }
     ensures { λ r. ⌜ (r ≡ firstIn (now (area .entry)) s) × (r < 65536) ⌝ }
@@ -223,16 +230,6 @@ fn next_in(area: &[u8], s: usize) -> usize
     ensures { λ r. ⌜ (r ≡ nextIn (now (area .entry)) s) × (r < 65536) ⌝ }
 {
     base::two(area, trees::SLOT_SIZE * s + 8)
-}
-
-fn leaf_in(area: &[u8], s: usize) -> usize
-    requires { ⌜ slotSize * s + slotSize ≤ length (now area) ⌝ }
-    ensures { λ r. ⌜ (r ≡ leafOf (productionIn (now (area .entry)) s)) × (r ≤ 1) ⌝ }
-{
-    if area[trees::SLOT_SIZE * s + 3] == 0 {
-        return 1;
-    }
-    0
 }
 
 // Marks no slot but slot 0, which is none.
@@ -270,11 +267,15 @@ fn wander(
     let mut x = start;
     let mut rest: usize = 0;
     loop {
-        let Kids::Body(body) = visit(area, slots, rows, words, t, count, s, par, x, w, i) else {
-            return Course::Astray;
+        let body = match visit(area, slots, rows, words, t, count, s, par, x, w, i) {
+            Kids::Leaf => {
+                leaves += 1;
+                0
+            }
+            Kids::Body(b) => b,
+            Kids::Unfit => return Course::Astray,
         };
         i += 1;
-        leaves += leaf_in(area, s);
         if body == 0 {
             if first_in(area, s) != 0 {
                 return Course::Astray;

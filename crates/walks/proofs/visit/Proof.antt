@@ -1,5 +1,5 @@
 use mathlib.Core.Path.{refl}
-use Rattle.walks.specs.Judging.{Visited, visited-marked, visited-unlike, visited-unfit, visited-body, suits-low}
+use Rattle.walks.specs.Judging.{Visited, visited-marked, visited-unlike, visited-unfit, visited-leaf, visited-body, suits-low}
 use borrow.Author.Needs.{needs}
 use Rattle.walks.proofs.visit.Statement.{statement}
 use Rattle.walks.proofs.visit.Tie as tie
@@ -40,17 +40,11 @@ four-requires c κs = search needs
 kin-requires : tie.Need-kin-requires
 kin-requires c κs = (c .before .before .before .before .before .before .before .before .before .before .before .before .pre .2, c .before .before .before .before .before .before .before .before .before .before .before .before .pre .3, suits-low (record { small = λ i. c .before .before .before .before .before .before .before .before .before .before .before .shared-slice-known .given i .fits }) (c .before .before .before .suits .ensures .yes (c .before .before .if3 .taken)), search needs)
 
-enum-known-body : tie.Need-enum-known-body
-enum-known-body c = search needs
-
 enum-told : tie.Need-enum-told
 enum-told c = search needs
 
-returns-3 : tie.Need-returns-3
-returns-3 c = visited-unfit _ _ _ _ _ _ _ _ _ _ _ (c .before .before .before .before .before .before .before .before .before .marks-at .ensures) (c .before .before .before .before .before .before .before .before .before .before .if1 .left) _ _ (record { small = λ i. c .before .before .before .before .before .before .before .before .before .before .before .before .before .before .shared-slice-known .given i .fits }) (c .before .before .before .before .two .ensures .0) (c .before .before .before .four .ensures .0) _ (c .before .before .kin .ensures) (c .enum-told .given .1)
-
 put-node-requires : tie.Need-put-node-requires
-put-node-requires c κs = let h = suits-low (record { small = λ i. c .before .before .before .before .before .before .before .before .before .before .before .before .before .before .before .before .shared-slice-known .given i .fits }) (c .before .before .before .before .before .before .before .before .suits .ensures .yes (c .before .before .before .before .before .before .before .if3 .taken)) in search needs
+put-node-requires c κs = let h = suits-low (record { small = λ i. c .before .before .before .before .before .before .before .before .before .before .before .before .before .before .before .shared-slice-known .given i .fits }) (c .before .before .before .before .before .before .before .suits .ensures .yes (c .before .before .before .before .before .before .if3 .taken)) in search needs
 
 slice-write-w : tie.Need-slice-write-w
 slice-write-w c = search needs
@@ -58,11 +52,32 @@ slice-write-w c = search needs
 same-length : tie.Need-same-length
 same-length c = search needs
 
+returns-3 : tie.Need-returns-3
+returns-3 c = visited-leaf _ _ _ _ _ _ _ _ _ _ _ (c .before .before .before .before .before .before .before .before .before .before .before .before .before .marks-at .ensures) (c .before .before .before .before .before .before .before .before .before .before .before .before .before .before .if1 .left) _ _ (record { small = λ i. c .before .before .before .before .before .before .before .before .before .before .before .before .before .before .before .before .before .before .shared-slice-known .given i .fits }) (c .before .before .before .before .before .before .before .before .two .ensures .0) (c .before .before .before .before .before .before .before .four .ensures .0) _ (c .before .before .before .before .before .before .kin .ensures) (c .before .before .before .before .before .before .before .before .before .before .before .if2 .left) _ (c .before .before .before .before .before .before .before .before .before .before .suits .ensures) (c .before .before .before .before .before .before .before .before .before .if3 .taken) (c .before .before .before .before .before .before .before .four .ensures .1) _ _ refl (c .before .before .before .before .enum-told .given .1) (c .before .before .put-node .ensures)
+
+enum-known-body : tie.Need-enum-known-body
+enum-known-body c = search needs
+
+put-node-requires-2 : tie.Need-put-node-requires-2
+put-node-requires-2 c κs = let h = suits-low (record { small = λ i. c .before .before .before .before .before .before .before .before .before .before .before .before .before .before .before .before .shared-slice-known .given i .fits }) (c .before .before .before .before .before .before .before .before .suits .ensures .yes (c .before .before .before .before .before .before .before .if3 .taken)) in search needs
+
+slice-write-w-2 : tie.Need-slice-write-w-2
+slice-write-w-2 c = search needs
+
+same-length-2 : tie.Need-same-length-2
+same-length-2 c = search needs
+
 returns-4 : tie.Need-returns-4
-returns-4 c = visited-body _ _ _ _ _ _ _ _ _ _ _ (c .before .before .before .before .before .before .before .before .before .before .before .before .before .before .marks-at .ensures) (c .before .before .before .before .before .before .before .before .before .before .before .before .before .before .before .if1 .left) _ _ (record { small = λ i. c .before .before .before .before .before .before .before .before .before .before .before .before .before .before .before .before .before .before .before .shared-slice-known .given i .fits }) (c .before .before .before .before .before .before .before .before .before .two .ensures .0) (c .before .before .before .before .before .before .before .before .four .ensures .0) _ (c .before .before .before .before .before .before .before .kin .ensures) (c .before .before .before .before .before .before .before .before .before .before .before .before .if2 .left) _ (c .before .before .before .before .before .before .before .before .before .before .before .suits .ensures) (c .before .before .before .before .before .before .before .before .before .before .if3 .taken) _ (c .before .before .before .before .before .body .given .1) (c .before .before .before .before .before .before .before .before .four .ensures .1) _ _ (c .before .before .put-node .ensures) refl
+returns-4 c = visited-body _ _ _ _ _ _ _ _ _ _ _ (c .before .before .before .before .before .before .before .before .before .before .before .before .before .before .marks-at .ensures) (c .before .before .before .before .before .before .before .before .before .before .before .before .before .before .before .if1 .left) _ _ (record { small = λ i. c .before .before .before .before .before .before .before .before .before .before .before .before .before .before .before .before .before .before .before .shared-slice-known .given i .fits }) (c .before .before .before .before .before .before .before .before .before .two .ensures .0) (c .before .before .before .before .before .before .before .before .four .ensures .0) _ (c .before .before .before .before .before .before .before .kin .ensures) (c .before .before .before .before .before .before .before .before .before .before .before .before .if2 .left) _ (c .before .before .before .before .before .before .before .before .before .before .before .suits .ensures) (c .before .before .before .before .before .before .before .before .before .before .if3 .taken) (c .before .before .before .before .before .before .before .before .four .ensures .1) _ _ refl _ (c .before .before .before .before .before .body .given .1) (c .before .before .put-node2 .ensures)
+
+enum-told-2 : tie.Need-enum-told-2
+enum-told-2 c = search needs
 
 returns-5 : tie.Need-returns-5
-returns-5 c = visited-unlike _ _ _ _ _ _ _ _ _ _ _ (c .before .suits .ensures) (c .if3 .left)
+returns-5 c = visited-unfit _ _ _ _ _ _ _ _ _ _ _ (c .before .before .before .before .before .before .before .before .before .marks-at .ensures) (c .before .before .before .before .before .before .before .before .before .before .if1 .left) _ _ (record { small = λ i. c .before .before .before .before .before .before .before .before .before .before .before .before .before .before .shared-slice-known .given i .fits }) (c .before .before .before .before .two .ensures .0) (c .before .before .before .four .ensures .0) _ (c .before .before .kin .ensures) (c .enum-told2 .given .1)
+
+returns-6 : tie.Need-returns-6
+returns-6 c = visited-unlike _ _ _ _ _ _ _ _ _ _ _ (c .before .suits .ensures) (c .if3 .left)
 
 pub visit-spec : {M : Type 1} → statement M
 visit-spec =
@@ -80,11 +95,16 @@ visit-spec =
     add-four
     four-requires
     kin-requires
-    enum-known-body
     enum-told
-    returns-3
     put-node-requires
     slice-write-w
     same-length
+    returns-3
+    enum-known-body
+    put-node-requires-2
+    slice-write-w-2
+    same-length-2
     returns-4
-    returns-5)
+    enum-told-2
+    returns-5
+    returns-6)

@@ -1,7 +1,8 @@
-use Rattle.walks.specs.Walking.{Walking, walking-start, walking-leaves, walking-fits, walking-room, walking-next, walking-up, walking-end, walking-down, walking-push, wandered-unfit, wandered-below, wandered-behind}
+use Rattle.walks.specs.Walking.{Walking, Taken, taken-leaf, taken-body, walking-start, walking-leaves, walking-fits, walking-room, walking-next, walking-up, walking-end, walking-down, walking-push, wandered-unfit, wandered-below, wandered-behind}
 use Rattle.walks.specs.Stacked.{workSize}
 use lib.ListN.{length}
 use mathlib.Core.Path.{_≡_, refl}
+use mathlib.Core.Logic.{⊎-elim}
 use Prim.Native.Nat.{_-_, _≤_}
 use borrow.Author.Needs.{needs}
 use native.Mathlib.Omega.{arith}
@@ -13,6 +14,10 @@ Inv-loop area slots rows words t n start count w₀ bottom top₀ i₀ leaves₀
 
 abbrev μ-loop : tie.MeasureT-loop
 μ-loop area slots rows words t n start count w₀ bottom top₀ i₀ leaves₀ s₀ par₀ x₀ rest₀ w top i leaves s par x rest = slots - i
+
+-- what the arms of the match leave behind them
+taken : (c : tie.At-match-came Inv-loop μ-loop) → Taken (c .before .before .before .visit .result) (c .before .before .before .before .before .loop .leaves) (c .match .body) (c .match .leaves)
+taken c = ⊎-elim (λ w. taken-leaf _ _ _ (w .1 .given .1) (w .3) (w .2)) (λ w. taken-body _ _ _ _ (w .1 .given .1) (w .4) (w .3)) (c .match .came)
 
 fresh-requires : tie.Need-fresh-requires Inv-loop μ-loop
 fresh-requires c κs = search needs
@@ -29,104 +34,104 @@ loop-holds c = (search needs, search needs, walking-start _ _ _ _ _ _ _ _ _ _ (c
 visit-requires : tie.Need-visit-requires Inv-loop μ-loop
 visit-requires c κs = (c .before .before .before .before .before .before .before .before .before .before .before .pre .0, c .before .before .before .before .before .before .before .before .before .before .before .pre .1, c .before .before .before .before .before .before .before .before .before .before .before .pre .2, c .before .before .before .before .before .before .before .before .before .before .before .pre .3, c .before .loop .inv .0, c .before .loop .inv .2 .room)
 
-enum-known-body : tie.Need-enum-known-body Inv-loop μ-loop
-enum-known-body c = search needs
-
 enum-told : tie.Need-enum-told Inv-loop μ-loop
 enum-told c = search needs
+
+add-leaves : tie.Need-add-leaves Inv-loop μ-loop
+add-leaves c = omega (arith, walking-leaves _ _ _ _ _ _ _ (c .before .before .before .before .before .before .loop .inv .2), c .before .before .before .before .before .before .loop .inv .2 .room, c .before .before .before .before .before .before .before .before .before .before .before .before .before .before .before .before .pre .0)
+
+enum-known-b : tie.Need-enum-known-b Inv-loop μ-loop
+enum-known-b c = search needs
+
+enum-told-2 : tie.Need-enum-told-2 Inv-loop μ-loop
+enum-told-2 c = search needs
 
 same-length : tie.Need-same-length Inv-loop μ-loop
 same-length c = search needs
 
 returns : tie.Need-returns Inv-loop μ-loop
-returns c = wandered-unfit _ _ _ _ _ _ _ (c .before .before .before .before .before .before .loop .inv .2) (c .before .before .before .before .visit .ensures) _ (c .enum-told .given .1)
+returns c = wandered-unfit _ _ _ _ _ _ _ (c .before .before .before .before .before .before .loop .inv .2) (c .before .before .before .before .visit .ensures) _ (c .enum-told2 .given .1)
 
 add-i : tie.Need-add-i Inv-loop μ-loop
-add-i c = omega (arith, c .before .before .before .before .before .before .before .loop .inv .2 .room, c .before .before .before .before .before .before .before .before .before .before .before .before .before .before .before .before .before .pre .0)
-
-leaf-in-requires : tie.Need-leaf-in-requires Inv-loop μ-loop
-leaf-in-requires c κs = walking-fits _ _ _ _ _ _ _ (c .before .before .before .before .before .before .before .loop .inv .2) (c .before .before .before .before .before .visit .ensures) _ (c .before .body .given .1) (c .before .before .before .before .before .before .before .before .before .before .before .before .before .before .before .before .before .pre .1)
-
-add-leaves : tie.Need-add-leaves Inv-loop μ-loop
-add-leaves c = omega (arith, walking-leaves _ _ _ _ _ _ _ (c .before .before .before .before .before .before .before .before .loop .inv .2), c .before .before .before .before .before .before .before .before .loop .inv .2 .room, c .leaf-in .ensures .1, c .before .before .before .before .before .before .before .before .before .before .before .before .before .before .before .before .before .before .pre .0)
+add-i c = omega (arith, c .before .before .before .before .before .loop .inv .2 .room, c .before .before .before .before .before .before .before .before .before .before .before .before .before .before .before .pre .0)
 
 first-in-requires : tie.Need-first-in-requires Inv-loop μ-loop
-first-in-requires c κs = walking-fits _ _ _ _ _ _ _ (c .before .before .before .before .before .before .before .before .before .loop .inv .2) (c .before .before .before .before .before .before .before .visit .ensures) _ (c .before .before .before .body .given .1) (c .before .before .before .before .before .before .before .before .before .before .before .before .before .before .before .before .before .before .before .pre .1)
+first-in-requires c κs = walking-fits _ _ _ _ _ _ _ (c .before .before .before .before .before .before .loop .inv .2) (c .before .before .before .before .visit .ensures) (taken (c .before)) (c .before .before .before .before .before .before .before .before .before .before .before .before .before .before .before .before .pre .1)
 
 same-length-2 : tie.Need-same-length-2 Inv-loop μ-loop
 same-length-2 c = search needs
 
 returns-2 : tie.Need-returns-2 Inv-loop μ-loop
-returns-2 c = wandered-below _ _ _ _ _ _ _ (c .before .before .before .before .before .before .before .before .before .before .before .loop .inv .2) (c .before .before .before .before .before .before .before .before .before .visit .ensures) _ (c .before .before .before .before .before .body .given .1) _ _ (c .before .first-in .ensures .0) (c .if2 .taken) (c .before .before .if1 .taken)
+returns-2 c = wandered-below _ _ _ _ _ _ _ (c .before .before .before .before .before .before .before .before .loop .inv .2) (c .before .before .before .before .before .before .visit .ensures) (taken (c .before .before .before)) _ _ (c .before .first-in .ensures .0) (c .if2 .taken) (c .before .before .if1 .taken)
 
 next-in-requires : tie.Need-next-in-requires Inv-loop μ-loop
-next-in-requires c κs = walking-fits _ _ _ _ _ _ _ (c .before .before .before .before .before .before .before .before .before .before .before .before .loop .inv .2) (c .before .before .before .before .before .before .before .before .before .before .visit .ensures) _ (c .before .before .before .before .before .before .body .given .1) (c .before .before .before .before .before .before .before .before .before .before .before .before .before .before .before .before .before .before .before .before .before .before .pre .1)
+next-in-requires c κs = walking-fits _ _ _ _ _ _ _ (c .before .before .before .before .before .before .before .before .before .loop .inv .2) (c .before .before .before .before .before .before .before .visit .ensures) (taken (c .before .before .before .before)) (c .before .before .before .before .before .before .before .before .before .before .before .before .before .before .before .before .before .before .before .pre .1)
 
 same-length-3 : tie.Need-same-length-3 Inv-loop μ-loop
 same-length-3 c = search needs
 
 returns-3 : tie.Need-returns-3 Inv-loop μ-loop
-returns-3 c = wandered-behind _ _ _ _ _ _ _ (c .before .before .before .before .before .before .before .before .before .before .before .before .before .before .loop .inv .2) (c .before .before .before .before .before .before .before .before .before .before .before .before .visit .ensures) _ (c .before .before .before .before .before .before .before .before .body .given .1) _ _ (c .before .next-in .ensures .0) (c .if4 .taken) (c .before .before .if3 .taken)
+returns-3 c = wandered-behind _ _ _ _ _ _ _ (c .before .before .before .before .before .before .before .before .before .before .before .loop .inv .2) (c .before .before .before .before .before .before .before .before .before .visit .ensures) (taken (c .before .before .before .before .before .before)) _ _ (c .before .next-in .ensures .0) (c .if4 .taken) (c .before .before .if3 .taken)
 
 same-length-4 : tie.Need-same-length-4 Inv-loop μ-loop
 same-length-4 c = search needs
 
 returns-4 : tie.Need-returns-4 Inv-loop μ-loop
-returns-4 c = walking-end _ _ _ _ _ _ _ (c .before .before .before .before .before .before .before .before .before .before .before .before .before .before .before .loop .inv .2) (c .before .before .before .before .before .before .before .before .before .before .before .before .before .visit .ensures) _ (c .before .before .before .before .before .before .before .before .before .body .given .1) (c .before .before .before .before .before .before .before .before .before .before .before .before .before .before .before .loop .inv .0) (c .before .before .before .before .before .before .before .before .before .before .before .before .before .before .before .before .before .before .before .before .before .before .before .before .before .pre .0) _ _ _ (c .before .before .before .before .before .before .before .leaf-in .ensures .0) (c .before .before .before .before .before .first-in .ensures .0) (c .before .before .next-in .ensures .0) (c .before .before .before .before .before .first-in .ensures .1) (c .before .before .next-in .ensures .1) (c .before .before .before .before .before .before .if1 .taken) (c .before .before .before .before .if2 .left) (c .before .before .before .if3 .taken) (c .before .if4 .left) (c .if5 .taken)
+returns-4 c = walking-end _ _ _ _ _ _ _ (c .before .before .before .before .before .before .before .before .before .before .before .before .loop .inv .2) (c .before .before .before .before .before .before .before .before .before .before .visit .ensures) (taken (c .before .before .before .before .before .before .before)) (c .before .before .before .before .before .before .before .before .before .before .before .before .loop .inv .0) (c .before .before .before .before .before .before .before .before .before .before .before .before .before .before .before .before .before .before .before .before .before .before .pre .0) _ _ (c .before .before .before .before .before .first-in .ensures .0) (c .before .before .next-in .ensures .0) (c .before .before .before .before .before .first-in .ensures .1) (c .before .before .next-in .ensures .1) (c .before .before .before .before .before .before .if1 .taken) (c .before .before .before .before .if2 .left) (c .before .before .before .if3 .taken) (c .before .if4 .left) (c .if5 .taken)
 
 sub-top : tie.Need-sub-top Inv-loop μ-loop
-sub-top c = omega (arith, c .before .before .before .before .before .before .before .before .before .before .before .before .before .before .before .loop .inv .2 .place, c .if5 .left)
+sub-top c = omega (arith, c .before .before .before .before .before .before .before .before .before .before .before .before .loop .inv .2 .place, c .if5 .left)
 
 two-requires-2 : tie.Need-two-requires-2 Inv-loop μ-loop
 two-requires-2 c κs = search needs
 
 add-two : tie.Need-add-two Inv-loop μ-loop
-add-two c = omega (arith, c .before .before .before .before .before .before .before .before .before .before .before .before .before .before .before .before .before .before .loop .inv .2 .place, c .before .before .before .before .before .before .before .before .before .before .before .before .before .before .before .before .before .before .loop .inv .2 .few, c .before .before .before .before .before .before .before .before .before .before .before .before .before .before .before .before .before .before .loop .inv .2 .room, c .before .before .before .before .before .before .before .before .before .before .before .before .before .before .before .before .before .before .before .before .before .before .before .before .before .before .before .before .pre .0)
+add-two c = omega (arith, c .before .before .before .before .before .before .before .before .before .before .before .before .before .before .before .loop .inv .2 .place, c .before .before .before .before .before .before .before .before .before .before .before .before .before .before .before .loop .inv .2 .few, c .before .before .before .before .before .before .before .before .before .before .before .before .before .before .before .loop .inv .2 .room, c .before .before .before .before .before .before .before .before .before .before .before .before .before .before .before .before .before .before .before .before .before .before .before .before .before .pre .0)
 
 two-requires-3 : tie.Need-two-requires-3 Inv-loop μ-loop
 two-requires-3 c κs = search needs
 
 add-eight : tie.Need-add-eight Inv-loop μ-loop
-add-eight c = omega (arith, c .before .before .before .before .before .before .before .before .before .before .before .before .before .before .before .before .before .before .before .before .loop .inv .2 .place, c .before .before .before .before .before .before .before .before .before .before .before .before .before .before .before .before .before .before .before .before .loop .inv .2 .few, c .before .before .before .before .before .before .before .before .before .before .before .before .before .before .before .before .before .before .before .before .loop .inv .2 .room, c .before .before .before .before .before .before .before .before .before .before .before .before .before .before .before .before .before .before .before .before .before .before .before .before .before .before .before .before .before .before .pre .0)
+add-eight c = omega (arith, c .before .before .before .before .before .before .before .before .before .before .before .before .before .before .before .before .before .loop .inv .2 .place, c .before .before .before .before .before .before .before .before .before .before .before .before .before .before .before .before .before .loop .inv .2 .few, c .before .before .before .before .before .before .before .before .before .before .before .before .before .before .before .before .before .loop .inv .2 .room, c .before .before .before .before .before .before .before .before .before .before .before .before .before .before .before .before .before .before .before .before .before .before .before .before .before .before .before .pre .0)
 
 eight-requires : tie.Need-eight-requires Inv-loop μ-loop
 eight-requires c κs = search needs
 
 loop-less : tie.Need-loop-less Inv-loop μ-loop
-loop-less c = omega (arith, walking-room _ _ _ _ _ _ _ (c .before .before .before .before .before .before .before .before .before .before .before .before .before .before .before .before .before .before .before .before .before .loop .inv .2) (c .before .before .before .before .before .before .before .before .before .before .before .before .before .before .before .before .before .before .before .visit .ensures) _ (c .before .before .before .before .before .before .before .before .before .before .before .before .before .before .before .body .given .1))
+loop-less c = omega (arith, walking-room _ _ _ _ _ _ _ (c .before .before .before .before .before .before .before .before .before .before .before .before .before .before .before .before .before .before .loop .inv .2) (c .before .before .before .before .before .before .before .before .before .before .before .before .before .before .before .before .visit .ensures) (taken (c .before .before .before .before .before .before .before .before .before .before .before .before .before)))
 
 loop-again : tie.Need-loop-again Inv-loop μ-loop
-loop-again c = (search needs, search needs, walking-up _ _ _ _ _ _ _ (c .before .before .before .before .before .before .before .before .before .before .before .before .before .before .before .before .before .before .before .before .before .loop .inv .2) (c .before .before .before .before .before .before .before .before .before .before .before .before .before .before .before .before .before .before .before .visit .ensures) _ (c .before .before .before .before .before .before .before .before .before .before .before .before .before .before .before .body .given .1) (c .before .before .before .before .before .before .before .before .before .before .before .before .before .before .before .before .before .before .before .before .before .loop .inv .0) (c .before .before .before .before .before .before .before .before .before .before .before .before .before .before .before .before .before .before .before .before .before .before .before .before .before .before .before .before .before .before .before .pre .0) _ _ _ (c .before .before .before .before .before .before .before .before .before .before .before .before .before .leaf-in .ensures .0) (c .before .before .before .before .before .before .before .before .before .before .before .first-in .ensures .0) (c .before .before .before .before .before .before .before .before .next-in .ensures .0) (c .before .before .before .before .before .before .before .before .before .before .before .first-in .ensures .1) (c .before .before .before .before .before .before .before .before .next-in .ensures .1) (c .before .before .before .before .before .before .before .before .before .before .before .before .if1 .taken) (c .before .before .before .before .before .before .before .before .before .before .if2 .left) (c .before .before .before .before .before .before .before .before .before .if3 .taken) (c .before .before .before .before .before .before .before .if4 .left) (c .before .before .before .before .before .before .if5 .left) _ _ _ (c .before .before .before .before .two2 .ensures .0) (c .before .before .two3 .ensures .0) (c .before .before .two3 .ensures .1) (c .eight .ensures))
+loop-again c = (search needs, search needs, walking-up _ _ _ _ _ _ _ (c .before .before .before .before .before .before .before .before .before .before .before .before .before .before .before .before .before .before .loop .inv .2) (c .before .before .before .before .before .before .before .before .before .before .before .before .before .before .before .before .visit .ensures) (taken (c .before .before .before .before .before .before .before .before .before .before .before .before .before)) (c .before .before .before .before .before .before .before .before .before .before .before .before .before .before .before .before .before .before .loop .inv .0) (c .before .before .before .before .before .before .before .before .before .before .before .before .before .before .before .before .before .before .before .before .before .before .before .before .before .before .before .before .pre .0) _ _ (c .before .before .before .before .before .before .before .before .before .before .before .first-in .ensures .0) (c .before .before .before .before .before .before .before .before .next-in .ensures .0) (c .before .before .before .before .before .before .before .before .before .before .before .first-in .ensures .1) (c .before .before .before .before .before .before .before .before .next-in .ensures .1) (c .before .before .before .before .before .before .before .before .before .before .before .before .if1 .taken) (c .before .before .before .before .before .before .before .before .before .before .if2 .left) (c .before .before .before .before .before .before .before .before .before .if3 .taken) (c .before .before .before .before .before .before .before .if4 .left) (c .before .before .before .before .before .before .if5 .left) _ _ _ (c .before .before .before .before .two2 .ensures .0) (c .before .before .two3 .ensures .0) (c .before .before .two3 .ensures .1) (c .eight .ensures))
 
 next-in-requires-2 : tie.Need-next-in-requires-2 Inv-loop μ-loop
-next-in-requires-2 c κs = walking-fits _ _ _ _ _ _ _ (c .before .before .before .before .before .before .before .before .before .before .before .before .loop .inv .2) (c .before .before .before .before .before .before .before .before .before .before .visit .ensures) _ (c .before .before .before .before .before .before .body .given .1) (c .before .before .before .before .before .before .before .before .before .before .before .before .before .before .before .before .before .before .before .before .before .before .pre .1)
+next-in-requires-2 c κs = walking-fits _ _ _ _ _ _ _ (c .before .before .before .before .before .before .before .before .before .loop .inv .2) (c .before .before .before .before .before .before .before .visit .ensures) (taken (c .before .before .before .before)) (c .before .before .before .before .before .before .before .before .before .before .before .before .before .before .before .before .before .before .before .pre .1)
 
 loop-less-2 : tie.Need-loop-less-2 Inv-loop μ-loop
-loop-less-2 c = omega (arith, walking-room _ _ _ _ _ _ _ (c .before .before .before .before .before .before .before .before .before .before .before .before .before .loop .inv .2) (c .before .before .before .before .before .before .before .before .before .before .before .visit .ensures) _ (c .before .before .before .before .before .before .before .body .given .1))
+loop-less-2 c = omega (arith, walking-room _ _ _ _ _ _ _ (c .before .before .before .before .before .before .before .before .before .before .loop .inv .2) (c .before .before .before .before .before .before .before .before .visit .ensures) (taken (c .before .before .before .before .before)))
 
 loop-again-2 : tie.Need-loop-again-2 Inv-loop μ-loop
-loop-again-2 c = (search needs, search needs, walking-next _ _ _ _ _ _ _ (c .before .before .before .before .before .before .before .before .before .before .before .before .before .loop .inv .2) (c .before .before .before .before .before .before .before .before .before .before .before .visit .ensures) _ (c .before .before .before .before .before .before .before .body .given .1) (c .before .before .before .before .before .before .before .before .before .before .before .before .before .loop .inv .0) (c .before .before .before .before .before .before .before .before .before .before .before .before .before .before .before .before .before .before .before .before .before .before .before .pre .0) _ _ _ (c .before .before .before .before .before .leaf-in .ensures .0) (c .before .before .before .first-in .ensures .0) (c .next-in2 .ensures .0) (c .before .before .before .first-in .ensures .1) (c .next-in2 .ensures .1) (c .before .before .before .before .if1 .taken) (c .before .before .if2 .left) (c .before .if3 .left))
+loop-again-2 c = (search needs, search needs, walking-next _ _ _ _ _ _ _ (c .before .before .before .before .before .before .before .before .before .before .loop .inv .2) (c .before .before .before .before .before .before .before .before .visit .ensures) (taken (c .before .before .before .before .before)) (c .before .before .before .before .before .before .before .before .before .before .loop .inv .0) (c .before .before .before .before .before .before .before .before .before .before .before .before .before .before .before .before .before .before .before .before .pre .0) _ _ (c .before .before .before .first-in .ensures .0) (c .next-in2 .ensures .0) (c .before .before .before .first-in .ensures .1) (c .next-in2 .ensures .1) (c .before .before .before .before .if1 .taken) (c .before .before .if2 .left) (c .before .if3 .left))
 
 next-in-requires-3 : tie.Need-next-in-requires-3 Inv-loop μ-loop
-next-in-requires-3 c κs = walking-fits _ _ _ _ _ _ _ (c .before .before .before .before .before .before .before .before .before .before .loop .inv .2) (c .before .before .before .before .before .before .before .before .visit .ensures) _ (c .before .before .before .before .body .given .1) (c .before .before .before .before .before .before .before .before .before .before .before .before .before .before .before .before .before .before .before .before .pre .1)
+next-in-requires-3 c κs = walking-fits _ _ _ _ _ _ _ (c .before .before .before .before .before .before .before .loop .inv .2) (c .before .before .before .before .before .visit .ensures) (taken (c .before .before)) (c .before .before .before .before .before .before .before .before .before .before .before .before .before .before .before .before .before .pre .1)
 
 same-length-5 : tie.Need-same-length-5 Inv-loop μ-loop
 same-length-5 c = search needs
 
 returns-5 : tie.Need-returns-5 Inv-loop μ-loop
-returns-5 c = wandered-behind _ _ _ _ _ _ _ (c .before .before .before .before .before .before .before .before .before .before .before .before .loop .inv .2) (c .before .before .before .before .before .before .before .before .before .before .visit .ensures) _ (c .before .before .before .before .before .before .body .given .1) _ _ (c .before .next-in3 .ensures .0) (c .if7 .taken) (c .before .before .if6 .taken)
+returns-5 c = wandered-behind _ _ _ _ _ _ _ (c .before .before .before .before .before .before .before .before .before .loop .inv .2) (c .before .before .before .before .before .before .before .visit .ensures) (taken (c .before .before .before .before)) _ _ (c .before .next-in3 .ensures .0) (c .if7 .taken) (c .before .before .if6 .taken)
 
 first-in-requires-2 : tie.Need-first-in-requires-2 Inv-loop μ-loop
-first-in-requires-2 c κs = walking-fits _ _ _ _ _ _ _ (c .before .before .before .before .before .before .before .before .before .before .before .before .loop .inv .2) (c .before .before .before .before .before .before .before .before .before .before .visit .ensures) _ (c .before .before .before .before .before .before .body .given .1) (c .before .before .before .before .before .before .before .before .before .before .before .before .before .before .before .before .before .before .before .before .before .before .pre .1)
+first-in-requires-2 c κs = walking-fits _ _ _ _ _ _ _ (c .before .before .before .before .before .before .before .before .before .loop .inv .2) (c .before .before .before .before .before .before .before .visit .ensures) (taken (c .before .before .before .before)) (c .before .before .before .before .before .before .before .before .before .before .before .before .before .before .before .before .before .before .before .pre .1)
 
 loop-less-3 : tie.Need-loop-less-3 Inv-loop μ-loop
-loop-less-3 c = omega (arith, walking-room _ _ _ _ _ _ _ (c .before .before .before .before .before .before .before .before .before .before .before .before .before .loop .inv .2) (c .before .before .before .before .before .before .before .before .before .before .before .visit .ensures) _ (c .before .before .before .before .before .before .before .body .given .1))
+loop-less-3 c = omega (arith, walking-room _ _ _ _ _ _ _ (c .before .before .before .before .before .before .before .before .before .before .before .loop .inv .2) (c .before .before .before .before .before .before .before .before .before .visit .ensures) (taken (c .before .before .before .before .before .before)))
 
 loop-again-3 : tie.Need-loop-again-3 Inv-loop μ-loop
-loop-again-3 c = (search needs, search needs, walking-down _ _ _ _ _ _ _ (c .before .before .before .before .before .before .before .before .before .before .before .before .before .loop .inv .2) (c .before .before .before .before .before .before .before .before .before .before .before .visit .ensures) _ (c .before .before .before .before .before .before .before .body .given .1) (c .before .before .before .before .before .before .before .before .before .before .before .before .before .loop .inv .0) (c .before .before .before .before .before .before .before .before .before .before .before .before .before .before .before .before .before .before .before .before .before .before .before .pre .0) _ _ _ (c .before .before .before .before .before .leaf-in .ensures .0) (c .first-in2 .ensures .0) (c .before .before .next-in3 .ensures .0) (c .first-in2 .ensures .1) (c .before .before .next-in3 .ensures .1) (c .before .before .before .before .if1 .left) (c .before .before .before .if6 .taken) (c .before .if7 .left))
+loop-again-3 c = (search needs, search needs, walking-down _ _ _ _ _ _ _ (c .before .before .before .before .before .before .before .before .before .before .before .loop .inv .2) (c .before .before .before .before .before .before .before .before .before .visit .ensures) (taken (c .before .before .before .before .before .before)) (c .before .before .before .before .before .before .before .before .before .before .before .loop .inv .0) (c .before .before .before .before .before .before .before .before .before .before .before .before .before .before .before .before .before .before .before .before .before .pre .0) _ _ (c .before .first-in2 .ensures .0) (c .before .before .before .next-in3 .ensures .0) (c .before .first-in2 .ensures .1) (c .before .before .before .next-in3 .ensures .1) (c .before .before .before .before .before .if1 .left) (c .before .before .before .before .if6 .taken) (c .before .before .if7 .left))
 
 next-in-requires-4 : tie.Need-next-in-requires-4 Inv-loop μ-loop
-next-in-requires-4 c κs = walking-fits _ _ _ _ _ _ _ (c .before .before .before .before .before .before .before .before .before .before .before .loop .inv .2) (c .before .before .before .before .before .before .before .before .before .visit .ensures) _ (c .before .before .before .before .before .body .given .1) (c .before .before .before .before .before .before .before .before .before .before .before .before .before .before .before .before .before .before .before .before .before .pre .1)
+next-in-requires-4 c κs = walking-fits _ _ _ _ _ _ _ (c .before .before .before .before .before .before .before .before .loop .inv .2) (c .before .before .before .before .before .before .visit .ensures) (taken (c .before .before .before)) (c .before .before .before .before .before .before .before .before .before .before .before .before .before .before .before .before .before .before .pre .1)
 
 put-frame-requires : tie.Need-put-frame-requires Inv-loop μ-loop
 put-frame-requires c κs = search needs
@@ -135,13 +140,13 @@ add-top : tie.Need-add-top Inv-loop μ-loop
 add-top c = search needs
 
 first-in-requires-3 : tie.Need-first-in-requires-3 Inv-loop μ-loop
-first-in-requires-3 c κs = walking-fits _ _ _ _ _ _ _ (c .before .before .before .before .before .before .before .before .before .before .before .before .before .before .before .loop .inv .2) (c .before .before .before .before .before .before .before .before .before .before .before .before .before .visit .ensures) _ (c .before .before .before .before .before .before .before .before .before .body .given .1) (c .before .before .before .before .before .before .before .before .before .before .before .before .before .before .before .before .before .before .before .before .before .before .before .before .before .pre .1)
+first-in-requires-3 c κs = walking-fits _ _ _ _ _ _ _ (c .before .before .before .before .before .before .before .before .before .before .before .before .loop .inv .2) (c .before .before .before .before .before .before .before .before .before .before .visit .ensures) (taken (c .before .before .before .before .before .before .before)) (c .before .before .before .before .before .before .before .before .before .before .before .before .before .before .before .before .before .before .before .before .before .before .pre .1)
 
 loop-less-4 : tie.Need-loop-less-4 Inv-loop μ-loop
-loop-less-4 c = omega (arith, walking-room _ _ _ _ _ _ _ (c .before .before .before .before .before .before .before .before .before .before .before .before .before .before .before .before .loop .inv .2) (c .before .before .before .before .before .before .before .before .before .before .before .before .before .before .visit .ensures) _ (c .before .before .before .before .before .before .before .before .before .before .body .given .1))
+loop-less-4 c = omega (arith, walking-room _ _ _ _ _ _ _ (c .before .before .before .before .before .before .before .before .before .before .before .before .before .before .loop .inv .2) (c .before .before .before .before .before .before .before .before .before .before .before .before .visit .ensures) (taken (c .before .before .before .before .before .before .before .before .before)))
 
 loop-again-4 : tie.Need-loop-again-4 Inv-loop μ-loop
-loop-again-4 c = (search needs, search needs, walking-push _ _ _ _ _ _ _ (c .before .before .before .before .before .before .before .before .before .before .before .before .before .before .before .before .loop .inv .2) (c .before .before .before .before .before .before .before .before .before .before .before .before .before .before .visit .ensures) _ (c .before .before .before .before .before .before .before .before .before .before .body .given .1) (c .before .before .before .before .before .before .before .before .before .before .before .before .before .before .before .before .loop .inv .0) (c .before .before .before .before .before .before .before .before .before .before .before .before .before .before .before .before .before .before .before .before .before .before .before .before .before .before .pre .0) _ _ _ (c .before .before .before .before .before .before .before .before .leaf-in .ensures .0) (c .first-in3 .ensures .0) (c .before .before .before .before .next-in4 .ensures .0) (c .first-in3 .ensures .1) (c .before .before .before .before .next-in4 .ensures .1) (c .before .before .before .before .before .before .before .if1 .left) (c .before .before .before .before .before .before .if6 .left) _ (c .before .before .before .put-frame .ensures))
+loop-again-4 c = (search needs, search needs, walking-push _ _ _ _ _ _ _ (c .before .before .before .before .before .before .before .before .before .before .before .before .before .before .loop .inv .2) (c .before .before .before .before .before .before .before .before .before .before .before .before .visit .ensures) (taken (c .before .before .before .before .before .before .before .before .before)) (c .before .before .before .before .before .before .before .before .before .before .before .before .before .before .loop .inv .0) (c .before .before .before .before .before .before .before .before .before .before .before .before .before .before .before .before .before .before .before .before .before .before .before .before .pre .0) _ _ (c .before .first-in3 .ensures .0) (c .before .before .before .before .before .next-in4 .ensures .0) (c .before .first-in3 .ensures .1) (c .before .before .before .before .before .next-in4 .ensures .1) (c .before .before .before .before .before .before .before .before .if1 .left) (c .before .before .before .before .before .before .before .if6 .left) _ (c .before .before .before .before .put-frame .ensures))
 
 pub wander-spec : {M : Type 1} → statement M
 wander-spec =
@@ -154,13 +159,13 @@ wander-spec =
     two-requires
     loop-holds
     visit-requires
-    enum-known-body
     enum-told
+    add-leaves
+    enum-known-b
+    enum-told-2
     same-length
     returns
     add-i
-    leaf-in-requires
-    add-leaves
     first-in-requires
     same-length-2
     returns-2
