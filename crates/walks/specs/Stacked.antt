@@ -172,25 +172,22 @@ module _ (S : ℕ) (w : List ℕ) where
       ap (take (S + 1)) (ext-getD 0 (drop (marksAt S) w') (drop (marksAt S) w) (omega (arith, length-drop (marksAt S) w', length-drop (marksAt S) w, e))
       (λ i l. getD-drop (marksAt S) w' i 0 ∙ h (marksAt S + i) (omega arith) ∙ sym (getD-drop (marksAt S) w i 0)))
 
-  -- as a part of the work area they are lent
+  -- the part of the work area that is lent for them
   pub marks-part : (at : ℕ) → at ≡ marksAt S → take (at + S + 1 - at) (drop at w) ≡ marksIn S w
   unfolding marksIn
   marks-part at e = let q : at + S + 1 - at ≡ S + 1 = omega arith in rw (q, e)
 
-  -- zeros but for slot 0
-  pub marks-fresh : (at : ℕ) (b w1 w2 : List ℕ) → at ≡ marksAt S → workSize S ≤ length w → b ≡ zeros (length (take (at + S + 1 - at) (drop at w)))
-      → w1 ≡ take at w ++ (b ++ drop (at + S + 1 - at) (drop at w)) → w2 ≡ set w1 at 1 → marksIn S w2 ≡ set (zeros (S + 1)) 0 1
-  unfolding marksIn
-  marks-fresh at b w1 w2 e l eb e1 e2 =
-      let n : length (take (at + S + 1 - at) (drop at w)) ≡ S + 1 = simp (length-take, length-drop) (omega arith) in
-      let z : b ≡ zeros (S + 1) = eb ∙ ap zeros n in
-      let m : length b ≡ S + 1 = ap length z ∙ length-zeros (S + 1) in
-      let o : length (take at w) ≡ marksAt S = length-take-le at w (omega arith) ∙ e in
-      let q : take (S + 1) (drop (marksAt S) w1) ≡ zeros (S + 1) =
-      rw (e1, drop-at (take at w) (b ++ drop (at + S + 1 - at) (drop at w)) (marksAt S) o, take-at b (drop (at + S + 1 - at) (drop at w)) (S + 1) m) z
-      in
-      let i : at ≡ marksAt S + 0 = omega arith in
-      rw (e2, i) (marks-set' w1 ∙ ap (λ (u : List ℕ). set u 0 1) q)
-    where
-      marks-set' : (u : List ℕ) → take (S + 1) (drop (marksAt S) (set u (marksAt S + 0) 1)) ≡ set (take (S + 1) (drop (marksAt S) u)) 0 1
-      marks-set' u = ap (take (S + 1)) (drop-set-add (marksAt S) u 0 1) ∙ take-set-lt (S + 1) (drop (marksAt S) u) 0 1 (omega arith)
+-- zeros but for slot 0
+pub marks-fresh : (S : ℕ) (w : List ℕ) (at : ℕ) (b w1 w2 : List ℕ) → at ≡ marksAt S → workSize S ≤ length w → b ≡ zeros (length (take (at + S + 1 - at) (drop at w)))
+    → w1 ≡ take at w ++ (b ++ drop (at + S + 1 - at) (drop at w)) → w2 ≡ set w1 at 1 → marksIn S w2 ≡ set (zeros (S + 1)) 0 1
+unfolding marksIn
+marks-fresh S w at b w1 w2 e l eb e1 e2 =
+    let n : length (take (at + S + 1 - at) (drop at w)) ≡ S + 1 = simp (length-take, length-drop) (omega arith) in
+    let z : b ≡ zeros (S + 1) = eb ∙ ap zeros n in
+    let m : length b ≡ S + 1 = ap length z ∙ length-zeros (S + 1) in
+    let o : length (take at w) ≡ marksAt S = length-take-le at w (omega arith) ∙ e in
+    let q : take (S + 1) (drop (marksAt S) w1) ≡ zeros (S + 1) =
+    rw (e1, drop-at (take at w) (b ++ drop (at + S + 1 - at) (drop at w)) (marksAt S) o, take-at b (drop (at + S + 1 - at) (drop at w)) (S + 1) m) z
+    in
+    let i : at ≡ marksAt S + 0 = omega arith in
+    rw (e2, i) (marks-set S w1 0 1 (omega arith) ∙ ap (λ (u : List ℕ). set u 0 1) q)

@@ -401,7 +401,7 @@ fn run_of(area: &[u8], marks: &[u8], s: usize, slots: usize) -> usize
     0
 }
 
-// Whether every slot is.
+// Whether every slot was visited, or is zero.
 fn all_clear(area: &[u8], marks: &[u8], slots: usize) -> bool
     requires { ⌜ (slots ≤ maxSlots) × (length (now area) ≡ areaSize slots) × (slots < length (now marks)) ⌝ }
     ensures { λ r. ⌜ Tells (ClearTo (now (area .entry)) (now (marks .entry)) (slots + 1)) r ⌝ }
