@@ -1,11 +1,11 @@
 -- Tables written cell by cell: the cells of a run hold a function's values, and the others are as they were.
-use Prim.Native.Nat.{ℕ, _+_, _-_, _≤_, _<_}
-use mathlib.Core.Path.{_≡_, refl, ap, _∙_}
+use Prim.Native.Nat.{ℕ, _+_, _≤_, _<_}
+use mathlib.Core.Path.{_≡_, refl, _∙_}
 use mathlib.Core.List.{List}
 use mathlib.Core.Logic.{by-cases}
 use lib.ListN.{length, getD, set, length-set}
 use lib.Seq.{getD-set-same, getD-set-other}
-use native.Mathlib.Decide.{ℕ-discrete, decLt}
+use native.Mathlib.Decide.{ℕ-discrete}
 use native.Mathlib.Omega.{arith}
 
 -- k cells from `at` on hold f; w' is else as w was
@@ -31,19 +31,5 @@ module _ (f : ℕ → ℕ) (at : ℕ) (w : List ℕ) where
 
   pub filled-all : (w' : List ℕ) (k n : ℕ) → n ≤ k → k ≤ n → Filled f at k w w' → Filled f at n w w'
   filled-all w' k n l m h = let q : k ≡ n = omega arith in rw q at h
-
-  -- a run behind a run
-  pub filled-join : (w' w'' : List ℕ) (g : ℕ → ℕ) (k m at' : ℕ) → at' ≡ at + k → ((i : ℕ) → i < m → g i ≡ f (k + i)) → Filled f at k w w' → Filled g at' m w' w'' → Filled f at (k + m) w w''
-  filled-join w' w'' g k m at' q e h u =
-      record {
-        long = u .long ∙ h .long;
-        inside = λ i l. by-cases (decLt i k)
-            (λ x. u .before (at + i) (omega arith) ∙ h .inside i x)
-            (λ x. let y : at + i ≡ at' + (i - k) = omega arith in
-            let z : k + (i - k) ≡ i = omega arith in
-            ap (λ (j : ℕ). getD w'' j 0) y ∙ u .inside (i - k) (omega arith) ∙ e (i - k) (omega arith) ∙ ap f z);
-        before = λ j l. u .before j (omega arith) ∙ h .before j l;
-        behind = λ j l. u .behind j (omega arith) ∙ h .behind j (omega arith);
-      }
 
 pub ruleset filling = (filled-none, filled-more, filled-all)

@@ -226,10 +226,6 @@ pub left-small : (rows : List ℕ) (p : ℕ) → leftAt rows p < symbolSpace
 unfolding leftAt
 left-small rows p = omega arith
 
-pub length-small : (rows : List ℕ) (p : ℕ) → lengthAt rows p < bodySpace
-unfolding lengthAt
-length-small rows p = omega arith
-
 pub symbols-small : (rows : List ℕ) (p k j : ℕ) → Each (λ (x : ℕ). x < symbolSpace) (symbolsFrom rows p k j)
 unfolding symbolAt
 symbols-small rows p zero j = Each.nil

@@ -27,14 +27,6 @@ fn place(slots: usize, x: usize) -> usize
     trees::NODE_SIZE * (slots + slots) + NOTE_SIZE * x
 }
 
-// How many bytes the nodes, notes and marks take for so many slots.
-pub fn size(slots: usize) -> usize
-    requires { ⌜ slots ≤ maxSlots ⌝ }
-    ensures { λ r. ⌜ r ≡ notesSize slots ⌝ }
-{
-    place(slots, slots + slots + 1) + slots + 1
-}
-
 // Fields of node x of both lists, the new tree's from node `slots` on.
 pub fn symbol_in(work: &[u8], slots: usize, x: usize) -> usize
     requires { ⌜ (notesSize slots ≤ length (now work)) × (x < slots + slots) ⌝ }
