@@ -62,9 +62,10 @@ module _ (rows : List ℕ) (t n start count S : ℕ) (tree nodes : List ℕ) (o 
   pub treed-sized : (1 ≤ S) × (S ≤ maxSlots) × (o ≤ S) × (length tree ≡ areaSize S)
   treed-sized = (h .valid .some, h .valid .few, treed-fits, h .valid .area .long)
 
-  -- the work area has room for both lists of nodes and what is noted, and for the new sentence behind them
+  -- the work area has room for a list of nodes
   pub treed-long : workAreas * length tree ≤ length nodes → nodeSize * S ≤ length nodes
   treed-long l = omega (arith, h .valid .area .long)
 
+  -- and for both lists and what is noted
   pub treed-room : (x : ℕ) → workAreas * length tree ≤ length nodes → x ≡ length nodes → notesSize S ≤ x
   treed-room x l e = omega (arith, h .valid .area .long)

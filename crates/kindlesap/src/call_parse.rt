@@ -185,7 +185,7 @@ fn parse_read(
     }
 }
 
-// Replies 1 to 10, or the tree of the tokens.
+// Replies 1 to 7, 9 and 10, or the tree of the tokens.
 pub fn parse_image(
     image: &[u8],
     tables: &[u8],

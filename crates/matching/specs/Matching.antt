@@ -32,7 +32,7 @@ pub record Status (e : Edit) (old new : Forest) (i : ℕ) (ms : List ℕ) : Type
 
 -- ---- what the edit doesn't touch
 
--- a node that starts with token t of the new sentence and has u tokens: it has none, or starts behind the inserted ones, or ends before the place
+-- a node that starts with token t of the new sentence and has u tokens: it has none, or starts behind the inserted ones, or the token behind it is before the place, too
 pub data Apart (place inserted t u : ℕ) : Type 0 where
   void : u ≡ 0 → Apart place inserted t u
   after : place + inserted ≤ t → Apart place inserted t u

@@ -204,6 +204,7 @@ fn seek(
     if width == 0 {
         return notes::match_of(work, slots, i);
     }
+    // such a node's number is an old node's in any case; the first test shows it
     if i < n {
         if t < place {
             notes::set_match(work, slots, i, i + 1);
@@ -216,7 +217,8 @@ fn seek(
     v
 }
 
-// Whether the edit doesn't touch a node that starts with token t: it has no tokens, or starts behind the inserted ones, or ends before the place.
+// Whether the edit doesn't touch a node that starts with token t: it has no tokens, or starts behind the inserted ones, or the token behind it is
+// before the place, too.
 fn is_apart(t: usize, width: usize, place: usize, inserted: usize) -> bool
     requires { ⌜ (t ≤ 65535) × (width ≤ 65535) × (place ≤ 65535) × (inserted ≤ 65535) ⌝ }
     ensures { λ r. ⌜ Tells (Apart place inserted t width) r ⌝ }
@@ -233,7 +235,8 @@ fn is_apart(t: usize, width: usize, place: usize, inserted: usize) -> bool
     false
 }
 
-// The index behind the subtree of the new node i, if it is carried along with old node v; else 0.
+// The number of the new node behind the subtree of new node i, whose entry is v, if it is carried along; else 0. Of trees that are derivations the last test never fails:
+// it shows that the entries stay below n without knowing so.
 fn reach(
     work: &[u8],
     n: usize,

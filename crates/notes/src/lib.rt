@@ -108,7 +108,7 @@ pub fn set_match(work: &mut [u8], slots: usize, i: usize, v: usize)
     base::put_two(work, place(slots, i) + MATCH, v);
 }
 
-// No note and no mark.
+// No note; the marks stay.
 pub fn clear(work: &mut [u8], slots: usize)
     requires { ⌜ (slots ≤ maxSlots) × (notesSize slots ≤ length (now work)) ⌝ }
     ensures { λ _. ⌜ Viewed slots (now (work .exit)) (nodesIn slots (now (work .entry))) (zeros (slots + slots)) (zeros (slots + slots)) (zeros (slots + 1)) (zeros slots) ⌝ }

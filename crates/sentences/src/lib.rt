@@ -1,4 +1,5 @@
-// The new sentence of an edit: the old tree's leaves and the lent tokens, one behind the other, no more of them than a parse looks at. The tokens stand behind the nodes, in the same bytes.
+// The new sentence of an edit: the old tree's leaves and the lent tokens, one behind the other, no more of them than a parse looks at; and a tree's leaves for read back.
+// They are put together in the work area, behind the nodes. The tokens stand behind the nodes, in the same bytes.
 ghost use mathlib.Core.Path.{_≡_};
 ghost use Prim.Native.Nat.{_+_, _-_, _*_, _<_, _≤_};
 ghost use mathlib.Core.List.{_∷_};

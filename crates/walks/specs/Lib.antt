@@ -5,11 +5,11 @@ pub mod Frames
 pub mod Marks
 pub mod Going
 pub mod Reading
--- Bodies as numbers, the frames in bytes, and the code.
+-- Bodies as numbers, frames and marks in bytes, and the code.
 pub mod Digits
 pub mod Words
-pub mod Judging
 pub mod Stacked
+pub mod Judging
 pub mod Turning
 pub mod Walking
 pub mod Closing
