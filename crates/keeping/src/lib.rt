@@ -6,7 +6,7 @@ ghost use Prim.Native.Nat.{_+_, _<_, _≤_, max};
 ghost use lib.ListN.{length, getD};
 ghost use Rattle.trees.specs.Area.{maxSlots};
 ghost use Rattle.edits.specs.Keeping.{keptOf};
-ghost use Rattle.notes.specs.Views.{notesSize, nodesIn, matchesIn, marksIn, Kept};
+ghost use Rattle.notes.specs.Views.{notesSize, nodesIn, matchesIn, marksIn, Seen};
 ghost use Rattle.keeping.specs.Matched.{slotBy, heldFrom, Old, Fit};
 ghost use Rattle.keeping.specs.Marking.{Marks, Keeps, mark};
 ghost use Rattle.keeping.specs.Filling.{Lowest, Got, Gives};
@@ -26,7 +26,7 @@ fn held(work: &[u8], slots: usize, i: usize) -> usize
 // Marks slot h, unless it is 0, and answers how many that are.
 fn hold(work: &mut [u8], slots: usize, h: usize) -> usize
     requires { ⌜ (slots ≤ maxSlots) × (notesSize slots ≤ length (now work)) × (h ≤ slots) ⌝ }
-    ensures { λ r. ⌜ Kept slots (now (work .exit)) (nodesIn slots (now (work .entry))) (matchesIn slots (now (work .entry))) (mark (marksIn slots (now (work .entry))) h) × (r ≡ keptOf (h ∷ [])) × (r ≤ 1) ⌝ }
+    ensures { λ r. ⌜ Seen slots (now (work .exit)) (nodesIn slots (now (work .entry))) (matchesIn slots (now (work .entry))) (mark (marksIn slots (now (work .entry))) h) × (r ≡ keptOf (h ∷ [])) × (r ≤ 1) ⌝ }
 {
     if h == 0 {
         return 0;
@@ -38,7 +38,7 @@ fn hold(work: &mut [u8], slots: usize, h: usize) -> usize
 // Marks the slots that the k nodes of the new tree hold, and answers how many they are.
 fn hold_all(work: &mut [u8], slots: usize, k: usize) -> usize
     requires { ⌜ (slots ≤ maxSlots) × (notesSize slots ≤ length (now work)) × (k ≤ slots) × Old slots k (matchesIn slots (now work)) × Fit slots (nodesIn slots (now work)) (matchesIn slots (now work)) k ⌝ }
-    ensures { λ r. ⌜ Marks (nodesIn slots (now (work .entry))) (matchesIn slots (now (work .entry))) k (marksIn slots (now (work .exit))) × Keeps (nodesIn slots (now (work .entry))) (matchesIn slots (now (work .entry))) k r × Kept slots (now (work .exit)) (nodesIn slots (now (work .entry))) (matchesIn slots (now (work .entry))) (marksIn slots (now (work .exit))) ⌝ }
+    ensures { λ r. ⌜ Marks (nodesIn slots (now (work .entry))) (matchesIn slots (now (work .entry))) k (marksIn slots (now (work .exit))) × Keeps (nodesIn slots (now (work .entry))) (matchesIn slots (now (work .entry))) k r × Seen slots (now (work .exit)) (nodesIn slots (now (work .entry))) (matchesIn slots (now (work .entry))) (marksIn slots (now (work .exit))) ⌝ }
 {
     notes::clear_marks(work, slots);
     let mut kept: usize = 0;
@@ -69,7 +69,7 @@ fn lowest_free(work: &[u8], slots: usize, s: usize) -> usize
 // Gives node a its slot, h or, where that is 0, the lowest free one from s on; answers from where on the next is looked for.
 fn give_one(work: &mut [u8], slots: usize, a: usize, h: usize, s: usize) -> usize
     requires { ⌜ (slots ≤ maxSlots) × (notesSize slots ≤ length (now work)) × (a < slots + slots) × (h < 65536) × (s < 65536) ⌝ }
-    ensures { λ r. ⌜ Got (marksIn slots (now (work .entry))) slots s h (nodesIn slots (now (work .entry))) a (nodesIn slots (now (work .exit))) r × Kept slots (now (work .exit)) (nodesIn slots (now (work .exit))) (matchesIn slots (now (work .entry))) (marksIn slots (now (work .entry))) × (r ≤ max s (slots + 1) + 1) ⌝ }
+    ensures { λ r. ⌜ Got (marksIn slots (now (work .entry))) slots s h (nodesIn slots (now (work .entry))) a (nodesIn slots (now (work .exit))) r × Seen slots (now (work .exit)) (nodesIn slots (now (work .exit))) (matchesIn slots (now (work .entry))) (marksIn slots (now (work .entry))) × (r ≤ max s (slots + 1) + 1) ⌝ }
 {
     if h == 0 {
         let x = lowest_free(work, slots, s);

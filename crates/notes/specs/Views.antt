@@ -16,6 +16,16 @@ use Rattle.trees.specs.Listing.{node-kept, inSlot, Put}
 abbrev pub noteSize : ℕ
 noteSize = 8
 
+-- a note is four two-byte numbers: end, width, start and match
+abbrev pub widthPlace : ℕ
+widthPlace = 2
+
+abbrev pub startPlace : ℕ
+startPlace = 4
+
+abbrev pub matchPlace : ℕ
+matchPlace = 6
+
 -- note x stands behind the nodes of both trees, and the marks stand behind the last note
 abbrev pub noteAt : ℕ → ℕ → ℕ
 noteAt S x = nodeSize * (S + S) + noteSize * x
@@ -44,13 +54,13 @@ unfoldable pub endsIn : ℕ → List ℕ → List ℕ
 endsIn S w = fieldIn S 0 (S + S) w
 
 unfoldable pub widthsIn : ℕ → List ℕ → List ℕ
-widthsIn S w = fieldIn S 2 (S + S) w
+widthsIn S w = fieldIn S widthPlace (S + S) w
 
 unfoldable pub startsIn : ℕ → List ℕ → List ℕ
-startsIn S w = fieldIn S 4 (S + 1) w
+startsIn S w = fieldIn S startPlace (S + 1) w
 
 unfoldable pub matchesIn : ℕ → List ℕ → List ℕ
-matchesIn S w = fieldIn S 6 S w
+matchesIn S w = fieldIn S matchPlace S w
 
 unfoldable pub marksIn : ℕ → List ℕ → List ℕ
 marksIn S w = listFrom (λ x. byteAt w (marksAt S + x)) (S + 1) 0
@@ -64,7 +74,7 @@ pub record Viewed (S : ℕ) (w ns es ws ss ms : List ℕ) : Type 0 where
   pub matches : matchesIn S w ≡ ms
 
 -- these are the nodes, the matches and the marks in w
-pub record Kept (S : ℕ) (w ns ms ks : List ℕ) : Type 0 where
+pub record Seen (S : ℕ) (w ns ms ks : List ℕ) : Type 0 where
   pub nodes : nodesIn S w ≡ ns
   pub matches : matchesIn S w ≡ ms
   pub marks : marksIn S w ≡ ks
@@ -178,7 +188,7 @@ module _ {a b : ℕ} {w w' : List ℕ} (h : Only a b w w') where
   field-kept : (S at n : ℕ) → b ≤ nodeSize * (S + S) → fieldIn S at n w' ≡ fieldIn S at n w
   field-kept S at n l = list-same _ _ n (λ j m. word-kept (noteAt S j + at) (inr (omega arith)))
 
-  field-before : (S at n : ℕ) → at ≤ 6 → n ≤ S + S + 1 → marksAt S ≤ a → fieldIn S at n w' ≡ fieldIn S at n w
+  field-before : (S at n : ℕ) → at ≤ matchPlace → n ≤ S + S + 1 → marksAt S ≤ a → fieldIn S at n w' ≡ fieldIn S at n w
   field-before S at n l k m = list-same _ _ n (λ j o. word-kept (noteAt S j + at) (inl (omega arith)))
 
   marks-kept : (S : ℕ) → b ≤ marksAt S → marksIn S w' ≡ marksIn S w
@@ -186,7 +196,7 @@ module _ {a b : ℕ} {w w' : List ℕ} (h : Only a b w w') where
   marks-kept S l = list-same _ _ (S + 1) (λ j m. h .others (marksAt S + j) (inr (omega arith)))
 
 -- a number of a note is written
-module _ (w : List ℕ) (S x at v : ℕ) (l : at ≤ 6) where
+module _ (w : List ℕ) (S x at v : ℕ) (l : at ≤ matchPlace) where
   field-put : (n : ℕ) → x < n → noteAt S x + noteSize ≤ length w → fieldIn S at n (put16 w (noteAt S x + at) v) ≡ set (fieldIn S at n w) x v
   field-put n k m =
       list-set _ _ n x v k (get-put16 w (noteAt S x + at) v (omega arith))
@@ -195,7 +205,7 @@ module _ (w : List ℕ) (S x at v : ℕ) (l : at ≤ 6) where
       apart : (j : ℕ) → (j ≡ x → ⊥) → (noteAt S j + at + 2 ≤ noteAt S x + at) ⊎ (noteAt S x + at + 2 ≤ noteAt S j + at)
       apart j d = by-cases (decLt j x) (λ o. inl (omega arith)) (λ o. inr (by-cases (ℕ-discrete j x) (λ e. absurd (d e)) (λ e. omega arith)))
 
-  field-other : (n other : ℕ) → other ≤ 6 → (at + 2 ≤ other) ⊎ (other + 2 ≤ at) → fieldIn S other n (put16 w (noteAt S x + at) v) ≡ fieldIn S other n w
+  field-other : (n other : ℕ) → other ≤ matchPlace → (at + 2 ≤ other) ⊎ (other + 2 ≤ at) → fieldIn S other n (put16 w (noteAt S x + at) v) ≡ fieldIn S other n w
   field-other n other k d = list-same _ _ n (λ j o. word-kept (only-word w (noteAt S x + at) v) (noteAt S j + other) (apart d j))
     where
       apart : (at + 2 ≤ other) ⊎ (other + 2 ≤ at) → (j : ℕ) → (noteAt S j + other + 2 ≤ noteAt S x + at) ⊎ (noteAt S x + at + 2 ≤ noteAt S j + other)
@@ -233,17 +243,17 @@ module _ (w : List ℕ) (S : ℕ) where
     unfolding endsIn
     end-is l q = let z : at ≡ noteAt S x + 0 = omega arith in q ∙ ap (get16 w) z ∙ sym (get-list _ (S + S) x l)
 
-    pub width-is : x < S + S → r ≡ get16 w (at + 2) → r ≡ getD (widthsIn S w) x 0
+    pub width-is : x < S + S → r ≡ get16 w (at + widthPlace) → r ≡ getD (widthsIn S w) x 0
     unfolding widthsIn
-    width-is l q = let z : at + 2 ≡ noteAt S x + 2 = omega arith in q ∙ ap (get16 w) z ∙ sym (get-list _ (S + S) x l)
+    width-is l q = let z : at + widthPlace ≡ noteAt S x + widthPlace = omega arith in q ∙ ap (get16 w) z ∙ sym (get-list _ (S + S) x l)
 
-    pub start-is : x ≤ S → r ≡ get16 w (at + 4) → r ≡ getD (startsIn S w) x 0
+    pub start-is : x ≤ S → r ≡ get16 w (at + startPlace) → r ≡ getD (startsIn S w) x 0
     unfolding startsIn
-    start-is l q = let z : at + 4 ≡ noteAt S x + 4 = omega arith in q ∙ ap (get16 w) z ∙ sym (get-list _ (S + 1) x (omega arith))
+    start-is l q = let z : at + startPlace ≡ noteAt S x + startPlace = omega arith in q ∙ ap (get16 w) z ∙ sym (get-list _ (S + 1) x (omega arith))
 
-    pub match-is : x < S → r ≡ get16 w (at + 6) → r ≡ getD (matchesIn S w) x 0
+    pub match-is : x < S → r ≡ get16 w (at + matchPlace) → r ≡ getD (matchesIn S w) x 0
     unfolding matchesIn
-    match-is l q = let z : at + 6 ≡ noteAt S x + 6 = omega arith in q ∙ ap (get16 w) z ∙ sym (get-list _ S x l)
+    match-is l q = let z : at + matchPlace ≡ noteAt S x + matchPlace = omega arith in q ∙ ap (get16 w) z ∙ sym (get-list _ S x l)
 
   pub mark-is : (s at r : ℕ) → at ≡ marksAt S → s ≤ S → r ≡ byteAt w (at + s) → r ≡ getD (marksIn S w) s 0
   unfolding marksIn
@@ -273,56 +283,56 @@ module _ (w : List ℕ) (S : ℕ) where
 
 module _ (w : List ℕ) (S : ℕ) (room : notesSize S ≤ length w) where
   module _ (x at v : ℕ) (e : at ≡ noteAt S x) where
-    pub start-set : (w' : List ℕ) → x ≤ S → w' ≡ put16 w (at + 4) v → Viewed S w' (nodesIn S w) (endsIn S w) (widthsIn S w) (set (startsIn S w) x v) (matchesIn S w)
+    pub start-set : (w' : List ℕ) → x ≤ S → w' ≡ put16 w (at + startPlace) v → Viewed S w' (nodesIn S w) (endsIn S w) (widthsIn S w) (set (startsIn S w) x v) (matchesIn S w)
     unfolding endsIn widthsIn startsIn matchesIn
     start-set w' l q =
         rw (q, e) (record {
-          nodes = field-nodes w S x 4 v (omega arith);
-          ends = field-other w S x 4 v (omega arith) (S + S) 0 (omega arith) (inr (omega arith));
-          widths = field-other w S x 4 v (omega arith) (S + S) 2 (omega arith) (inr (omega arith));
-          starts = field-put w S x 4 v (omega arith) (S + 1) (omega arith) (omega arith);
-          matches = field-other w S x 4 v (omega arith) S 6 (omega arith) (inl (omega arith));
+          nodes = field-nodes w S x startPlace v (omega arith);
+          ends = field-other w S x startPlace v (omega arith) (S + S) 0 (omega arith) (inr (omega arith));
+          widths = field-other w S x startPlace v (omega arith) (S + S) widthPlace (omega arith) (inr (omega arith));
+          starts = field-put w S x startPlace v (omega arith) (S + 1) (omega arith) (omega arith);
+          matches = field-other w S x startPlace v (omega arith) S matchPlace (omega arith) (inl (omega arith));
         })
 
-    pub match-set : (w' : List ℕ) → x < S → w' ≡ put16 w (at + 6) v → Viewed S w' (nodesIn S w) (endsIn S w) (widthsIn S w) (startsIn S w) (set (matchesIn S w) x v)
+    pub match-set : (w' : List ℕ) → x < S → w' ≡ put16 w (at + matchPlace) v → Viewed S w' (nodesIn S w) (endsIn S w) (widthsIn S w) (startsIn S w) (set (matchesIn S w) x v)
     unfolding endsIn widthsIn startsIn matchesIn
     match-set w' l q =
         rw (q, e) (record {
-          nodes = field-nodes w S x 6 v (omega arith);
-          ends = field-other w S x 6 v (omega arith) (S + S) 0 (omega arith) (inr (omega arith));
-          widths = field-other w S x 6 v (omega arith) (S + S) 2 (omega arith) (inr (omega arith));
-          starts = field-other w S x 6 v (omega arith) (S + 1) 4 (omega arith) (inr (omega arith));
-          matches = field-put w S x 6 v (omega arith) S l (omega arith);
+          nodes = field-nodes w S x matchPlace v (omega arith);
+          ends = field-other w S x matchPlace v (omega arith) (S + S) 0 (omega arith) (inr (omega arith));
+          widths = field-other w S x matchPlace v (omega arith) (S + S) widthPlace (omega arith) (inr (omega arith));
+          starts = field-other w S x matchPlace v (omega arith) (S + 1) startPlace (omega arith) (inr (omega arith));
+          matches = field-put w S x matchPlace v (omega arith) S l (omega arith);
         })
 
-    pub span-set : (w₁ w₂ : List ℕ) (width : ℕ) → x < S + S → w₁ ≡ put16 w at v → w₂ ≡ put16 w₁ (at + 2) width
+    pub span-set : (w₁ w₂ : List ℕ) (width : ℕ) → x < S + S → w₁ ≡ put16 w at v → w₂ ≡ put16 w₁ (at + widthPlace) width
         → Viewed S w₂ (nodesIn S w) (set (endsIn S w) x v) (set (widthsIn S w) x width) (startsIn S w) (matchesIn S w)
     unfolding endsIn widthsIn startsIn matchesIn
     span-set w₁ w₂ width l q r =
         let z : at ≡ noteAt S x + 0 = omega arith in
-        let y : noteAt S x + 0 + 2 ≡ noteAt S x + 2 = omega arith in
+        let y : noteAt S x + 0 + widthPlace ≡ noteAt S x + widthPlace = omega arith in
         let u : List ℕ = put16 w (noteAt S x + 0) v in
         let long : noteAt S x + noteSize ≤ length u = omega (arith, length-put16 w (noteAt S x + 0) v) in
         rw (r, q, z, y) (record {
-          nodes = field-nodes u S x 2 width (omega arith) ∙ field-nodes w S x 0 v (omega arith);
-          ends = field-other u S x 2 width (omega arith) (S + S) 0 (omega arith) (inr (omega arith)) ∙ field-put w S x 0 v (omega arith) (S + S) l (omega arith);
-          widths = field-put u S x 2 width (omega arith) (S + S) l long ∙ ap (λ (k : List ℕ). set k x width) (field-other w S x 0 v (omega arith) (S + S) 2 (omega arith) (inl (omega arith)));
-          starts = field-other u S x 2 width (omega arith) (S + 1) 4 (omega arith) (inl (omega arith)) ∙ field-other w S x 0 v (omega arith) (S + 1) 4 (omega arith) (inl (omega arith));
-          matches = field-other u S x 2 width (omega arith) S 6 (omega arith) (inl (omega arith)) ∙ field-other w S x 0 v (omega arith) S 6 (omega arith) (inl (omega arith));
+          nodes = field-nodes u S x widthPlace width (omega arith) ∙ field-nodes w S x 0 v (omega arith);
+          ends = field-other u S x widthPlace width (omega arith) (S + S) 0 (omega arith) (inr (omega arith)) ∙ field-put w S x 0 v (omega arith) (S + S) l (omega arith);
+          widths = field-put u S x widthPlace width (omega arith) (S + S) l long ∙ ap (λ (k : List ℕ). set k x width) (field-other w S x 0 v (omega arith) (S + S) widthPlace (omega arith) (inl (omega arith)));
+          starts = field-other u S x widthPlace width (omega arith) (S + 1) startPlace (omega arith) (inl (omega arith)) ∙ field-other w S x 0 v (omega arith) (S + 1) startPlace (omega arith) (inl (omega arith));
+          matches = field-other u S x widthPlace width (omega arith) S matchPlace (omega arith) (inl (omega arith)) ∙ field-other w S x 0 v (omega arith) S matchPlace (omega arith) (inl (omega arith));
         })
 
-  pub mark-set : (s at : ℕ) → at ≡ marksAt S → s ≤ S → Kept S (set w (at + s) 1) (nodesIn S w) (matchesIn S w) (set (marksIn S w) s 1)
+  pub mark-set : (s at : ℕ) → at ≡ marksAt S → s ≤ S → Seen S (set w (at + s) 1) (nodesIn S w) (matchesIn S w) (set (marksIn S w) s 1)
   unfolding matchesIn marksIn
   mark-set s at e l =
       let o = only-byte w (marksAt S + s) 1 in
       rw e (record {
         nodes = nodes-kept o S (omega arith);
-        matches = field-before o S 6 S (omega arith) (omega arith) (omega arith);
+        matches = field-before o S matchPlace S (omega arith) (omega arith) (omega arith);
         marks = list-set _ _ (S + 1) s 1 (omega arith) (getD-set-same w (marksAt S + s) 1 0 (omega arith)) (λ j k d. getD-set-other w (marksAt S + s) (marksAt S + j) 1 0 (λ z. d (omega arith)));
       })
 
   pub slot-set : (w' : List ℕ) (x s : ℕ) → x < S + S → Put w x (inSlot s (nodeAt w x)) w'
-      → Put (nodesIn S w) x (inSlot s (nodeAt (nodesIn S w) x)) (nodesIn S w') × Kept S w' (nodesIn S w') (matchesIn S w) (marksIn S w)
+      → Put (nodesIn S w) x (inSlot s (nodeAt (nodesIn S w) x)) (nodesIn S w') × Seen S w' (nodesIn S w') (matchesIn S w) (marksIn S w)
   unfolding nodesIn matchesIn
   slot-set w' x s l h =
       let L : ℕ = nodeSize * (S + S) in
@@ -339,7 +349,7 @@ module _ (w : List ℕ) (S : ℕ) (room : notesSize S ≤ length w) where
         },
         record {
           nodes = refl;
-          matches = field-kept o S 6 S (omega arith);
+          matches = field-kept o S matchPlace S (omega arith);
           marks = marks-kept o S (omega arith);
         },
       )
@@ -361,20 +371,20 @@ module _ (w : List ℕ) (S : ℕ) (room : notesSize S ≤ length w) where
       let z : p ≡ zeros (b - a) = q ∙ ap zeros n in
       let o = only-part w a b (zeros (b - a)) (omega arith) (omega arith) (length-zeros (b - a)) in
       let v : List ℕ = withPart w a b (zeros (b - a)) in
-      let null : (j at : ℕ) → j < S + S + 1 → at ≤ 6 → get16 v (noteAt S j + at) ≡ 0 = λ j at k m.
+      let null : (j at : ℕ) → j < S + S + 1 → at ≤ matchPlace → get16 v (noteAt S j + at) ≡ 0 = λ j at k m.
       let x = cleared a b (omega arith) (omega arith) (noteAt S j + at) (omega arith) (omega arith) in
       let y = cleared a b (omega arith) (omega arith) (noteAt S j + at + 1) (omega arith) (omega arith) in
       omega (arith, x, y) in
       rw z (record {
         nodes = nodes-kept o S (omega arith);
         ends = list-zeros _ (S + S) (λ j k. null j 0 (omega arith) (omega arith));
-        widths = list-zeros _ (S + S) (λ j k. null j 2 (omega arith) (omega arith));
-        starts = list-zeros _ (S + 1) (λ j k. null j 4 (omega arith) (omega arith));
-        matches = list-zeros _ S (λ j k. null j 6 (omega arith) (omega arith));
+        widths = list-zeros _ (S + S) (λ j k. null j widthPlace (omega arith) (omega arith));
+        starts = list-zeros _ (S + 1) (λ j k. null j startPlace (omega arith) (omega arith));
+        matches = list-zeros _ S (λ j k. null j matchPlace (omega arith) (omega arith));
       })
 
   pub marks-cleared : (a b : ℕ) (p : List ℕ) → a ≡ marksAt S → b ≡ a + S + 1 → p ≡ zeros (length (take (b - a) (drop a w)))
-      → Kept S (withPart w a b p) (nodesIn S w) (matchesIn S w) (zeros (S + 1))
+      → Seen S (withPart w a b p) (nodesIn S w) (matchesIn S w) (zeros (S + 1))
   unfolding matchesIn marksIn
   marks-cleared a b p e f q =
       let n : length (take (b - a) (drop a w)) ≡ b - a = length-take-le (b - a) (drop a w) (omega (arith, length-drop a w)) in
@@ -382,6 +392,6 @@ module _ (w : List ℕ) (S : ℕ) (room : notesSize S ≤ length w) where
       let o = only-part w a b (zeros (b - a)) (omega arith) (omega arith) (length-zeros (b - a)) in
       rw z (record {
         nodes = nodes-kept o S (omega arith);
-        matches = field-before o S 6 S (omega arith) (omega arith) (omega arith);
+        matches = field-before o S matchPlace S (omega arith) (omega arith) (omega arith);
         marks = list-zeros _ (S + 1) (λ j k. cleared a b (omega arith) (omega arith) (marksAt S + j) (omega arith) (omega arith));
       })

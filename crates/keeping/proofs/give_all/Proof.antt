@@ -2,23 +2,23 @@ use Prim.Native.Nat.{_+_, _-_, _≤_, _<_}
 use mathlib.Core.Path.{_≡_}
 use lib.ListN.{length}
 use Rattle.trees.specs.Area.{maxSlots}
-use Rattle.notes.specs.Views.{notesSize, nodesIn, matchesIn, marksIn, Kept}
+use Rattle.notes.specs.Views.{notesSize, nodesIn, matchesIn, marksIn, Seen}
 use Rattle.keeping.specs.Matched.{Old, Fit}
 use Rattle.keeping.specs.Marking.{Marks}
 use Rattle.keeping.specs.Filling.{Giving, giving-none, giving-holds, giving-more, giving-all}
-use Rattle.keeping.specs.Seen.{kept-here, match-fits, slot-seen, got-then, kept-given}
+use Rattle.keeping.specs.Seen.{seen-here, match-fits, slot-seen, got-then, seen-given}
 use borrow.Author.Needs.{needs}
 use Rattle.keeping.proofs.give_all.Statement.{statement}
 use Rattle.keeping.proofs.give_all.Tie as tie
 
 abbrev Inv-loop : tie.InvT-loop
-Inv-loop work₀ slots k s₀ i₀ work s i = (slots ≤ maxSlots) × (notesSize slots ≤ length work) × (k ≤ slots) × Old slots k (matchesIn slots work₀) × Fit slots (nodesIn slots work₀) (matchesIn slots work₀) k × Marks (nodesIn slots work₀) (matchesIn slots work₀) k (marksIn slots work₀) × (length work ≡ length work₀) × (i ≤ k) × (s ≤ slots + 1 + i) × Kept slots work (nodesIn slots work) (matchesIn slots work₀) (marksIn slots work₀) × Giving (nodesIn slots work₀) (matchesIn slots work₀) slots k (nodesIn slots work) i s
+Inv-loop work₀ slots k s₀ i₀ work s i = (slots ≤ maxSlots) × (notesSize slots ≤ length work) × (k ≤ slots) × Old slots k (matchesIn slots work₀) × Fit slots (nodesIn slots work₀) (matchesIn slots work₀) k × Marks (nodesIn slots work₀) (matchesIn slots work₀) k (marksIn slots work₀) × (length work ≡ length work₀) × (i ≤ k) × (s ≤ slots + 1 + i) × Seen slots work (nodesIn slots work) (matchesIn slots work₀) (marksIn slots work₀) × Giving (nodesIn slots work₀) (matchesIn slots work₀) slots k (nodesIn slots work) i s
 
 abbrev μ-loop : tie.MeasureT-loop
 μ-loop work₀ slots k s₀ i₀ work s i = k - i
 
 loop-holds : tie.Need-loop-holds Inv-loop μ-loop
-loop-holds c = (search needs, search needs, search needs, search needs, search needs, search needs, search needs, search needs, search needs, kept-here _ _, giving-none _ _ _ _)
+loop-holds c = (search needs, search needs, search needs, search needs, search needs, search needs, search needs, search needs, search needs, seen-here _ _, giving-none _ _ _ _)
 
 held-requires : tie.Need-held-requires Inv-loop μ-loop
 held-requires c κs = (search needs, search needs, search needs, match-fits (c .before .before .loop .inv .9) _ _ (c .before .before .loop .inv .3) (search needs))
@@ -52,7 +52,7 @@ loop-again c =
       search needs,
       search needs,
       search needs,
-      kept-given (u .9) (g .1),
+      seen-given (u .9) (g .1),
       giving-more (u .5) (u .4) l e (got-then (u .9) (g .0)) (u .10),
     )
 

@@ -1,20 +1,20 @@
 use Rattle.keeping.specs.Seen.{marks-room, marks-then, keeps-then}
 use mathlib.Core.Path.{_≡_}
-use Rattle.keeping.specs.Seen.{kept-here, kept-more, match-fits, slot-then, old-now, fit-now}
+use Rattle.keeping.specs.Seen.{seen-here, seen-more, match-fits, slot-then, old-now, fit-now}
 use Prim.Native.Nat.{_-_, _≤_}
 use lib.ListN.{length}
 use Rattle.trees.specs.Area.{maxSlots}
-use Rattle.notes.specs.Views.{notesSize, nodesIn, matchesIn, marksIn, Kept}
+use Rattle.notes.specs.Views.{notesSize, nodesIn, matchesIn, marksIn, Seen}
 use Rattle.keeping.specs.Matched.{Old, Fit, fit-few}
 use Rattle.keeping.specs.Marking.{Marks, Keeps, marks-none, keeps-none, marks-more, keeps-more, marks-all, keeps-all}
-use Rattle.keeping.specs.Seen.{kept-more, match-fits, slot-then}
+use Rattle.keeping.specs.Seen.{seen-more, match-fits, slot-then}
 use borrow.Author.Needs.{needs}
 use native.Mathlib.Omega.{arith}
 use Rattle.keeping.proofs.hold_all.Statement.{statement}
 use Rattle.keeping.proofs.hold_all.Tie as tie
 
 abbrev Inv-loop : tie.InvT-loop
-Inv-loop work₀ slots k kept₀ i₀ work kept i = (slots ≤ maxSlots) × (notesSize slots ≤ length work) × (k ≤ slots) × Old slots k (matchesIn slots work₀) × Fit slots (nodesIn slots work₀) (matchesIn slots work₀) k × (i ≤ k) × Kept slots work (nodesIn slots work₀) (matchesIn slots work₀) (marksIn slots work) × Marks (nodesIn slots work₀) (matchesIn slots work₀) i (marksIn slots work) × Keeps (nodesIn slots work₀) (matchesIn slots work₀) i kept × (length work ≡ length work₀)
+Inv-loop work₀ slots k kept₀ i₀ work kept i = (slots ≤ maxSlots) × (notesSize slots ≤ length work) × (k ≤ slots) × Old slots k (matchesIn slots work₀) × Fit slots (nodesIn slots work₀) (matchesIn slots work₀) k × (i ≤ k) × Seen slots work (nodesIn slots work₀) (matchesIn slots work₀) (marksIn slots work) × Marks (nodesIn slots work₀) (matchesIn slots work₀) i (marksIn slots work) × Keeps (nodesIn slots work₀) (matchesIn slots work₀) i kept × (length work ≡ length work₀)
 
 abbrev μ-loop : tie.MeasureT-loop
 μ-loop work₀ slots k kept₀ i₀ work kept i = k - i
@@ -31,7 +31,7 @@ loop-holds c =
       old-now v (search needs),
       fit-now v (search needs),
       search needs,
-      kept-here _ _,
+      seen-here _ _,
       marks-none _ _ _ _ (v .marks),
       keeps-none _ _,
       search needs,
@@ -63,7 +63,7 @@ loop-again c =
       search needs,
       search needs,
       search needs,
-      kept-more (u .6) (c .before .before .hold .ensures .0),
+      seen-more (u .6) (c .before .before .hold .ensures .0),
       marks-more _ _ _ _ e (marks-room _ _ _ (omega arith)) (c .before .before .hold .ensures .0 .marks) (u .7),
       keeps-more _ _ _ _ e (c .before .before .hold .ensures .1) (search needs) (u .8),
       search needs,
@@ -76,7 +76,7 @@ returns : tie.Need-returns Inv-loop μ-loop
 returns c =
     let v = c .before .before .before .before .clear-marks .ensures in
     let u = c .before .loop .inv in
-    (marks-then v (marks-all (search needs) (search needs) (u .7)), keeps-then v (keeps-all (search needs) (search needs) (u .8)), kept-more v (u .6))
+    (marks-then v (marks-all (search needs) (search needs) (u .7)), keeps-then v (keeps-all (search needs) (search needs) (u .8)), seen-more v (u .6))
 
 pub hold-all-spec : {M : Type 1} → statement M
 hold-all-spec =

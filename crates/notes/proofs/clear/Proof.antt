@@ -3,17 +3,11 @@ use borrow.Author.Needs.{needs}
 use Rattle.notes.proofs.clear.Statement.{statement}
 use Rattle.notes.proofs.clear.Tie as tie
 
-place-requires : tie.Need-place-requires
-place-requires c κs = search needs
+note-at-requires : tie.Need-note-at-requires
+note-at-requires c κs = search needs
 
-add-place : tie.Need-add-place
-add-place c = search needs
-
-add-place-2 : tie.Need-add-place-2
-add-place-2 c = search needs
-
-place-requires-2 : tie.Need-place-requires-2
-place-requires-2 c κs = search needs
+marks-at-requires : tie.Need-marks-at-requires
+marks-at-requires c κs = search needs
 
 sub-zero : tie.Need-sub-zero
 sub-zero c = search needs
@@ -37,10 +31,8 @@ pub clear-spec : {M : Type 1} → statement M
 clear-spec =
     tie.close
     (tie.spec
-    place-requires
-    add-place
-    add-place-2
-    place-requires-2
+    note-at-requires
+    marks-at-requires
     sub-zero
     part-zero-start
     part-zero-end

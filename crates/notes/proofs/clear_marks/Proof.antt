@@ -3,14 +3,8 @@ use borrow.Author.Needs.{needs}
 use Rattle.notes.proofs.clear_marks.Statement.{statement}
 use Rattle.notes.proofs.clear_marks.Tie as tie
 
-add-place : tie.Need-add-place
-add-place c = search needs
-
-add-place-2 : tie.Need-add-place-2
-add-place-2 c = search needs
-
-place-requires : tie.Need-place-requires
-place-requires c κs = search needs
+marks-at-requires : tie.Need-marks-at-requires
+marks-at-requires c κs = search needs
 
 add-zero : tie.Need-add-zero
 add-zero c = search needs
@@ -40,9 +34,7 @@ pub clear-marks-spec : {M : Type 1} → statement M
 clear-marks-spec =
     tie.close
     (tie.spec
-    add-place
-    add-place-2
-    place-requires
+    marks-at-requires
     add-zero
     add-zero-2
     sub-zero

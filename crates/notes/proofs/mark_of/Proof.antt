@@ -3,14 +3,8 @@ use borrow.Author.Needs.{needs}
 use Rattle.notes.proofs.mark_of.Statement.{statement}
 use Rattle.notes.proofs.mark_of.Tie as tie
 
-add-place : tie.Need-add-place
-add-place c = search needs
-
-add-place-2 : tie.Need-add-place-2
-add-place-2 c = search needs
-
-place-requires : tie.Need-place-requires
-place-requires c κs = search needs
+marks-at-requires : tie.Need-marks-at-requires
+marks-at-requires c κs = search needs
 
 add-wide : tie.Need-add-wide
 add-wide c = search needs
@@ -26,12 +20,4 @@ returns c = (search (mark-is, needs), search needs)
 
 pub mark-of-spec : {M : Type 1} → statement M
 mark-of-spec =
-    tie.close
-    (tie.spec
-    add-place
-    add-place-2
-    place-requires
-    add-wide
-    shared-slice-read-wide
-    wide-requires
-    returns)
+    tie.close (tie.spec marks-at-requires add-wide shared-slice-read-wide wide-requires returns)

@@ -3,8 +3,8 @@ use borrow.Author.Needs.{needs}
 use Rattle.notes.proofs.set_span.Statement.{statement}
 use Rattle.notes.proofs.set_span.Tie as tie
 
-place-requires : tie.Need-place-requires
-place-requires c κs = search needs
+note-at-requires : tie.Need-note-at-requires
+note-at-requires c κs = search needs
 
 put-two-requires : tie.Need-put-two-requires
 put-two-requires c κs = search needs
@@ -24,4 +24,4 @@ returns c = search (span-set, needs)
 pub set-span-spec : {M : Type 1} → statement M
 set-span-spec =
     tie.close
-    (tie.spec place-requires put-two-requires add-put-two put-two-requires-2 same-length returns)
+    (tie.spec note-at-requires put-two-requires add-put-two put-two-requires-2 same-length returns)

@@ -3,8 +3,8 @@ use borrow.Author.Needs.{needs}
 use Rattle.notes.proofs.set_start.Statement.{statement}
 use Rattle.notes.proofs.set_start.Tie as tie
 
-place-requires : tie.Need-place-requires
-place-requires c κs = search needs
+note-at-requires : tie.Need-note-at-requires
+note-at-requires c κs = search needs
 
 add-put-two : tie.Need-add-put-two
 add-put-two c = search needs
@@ -20,4 +20,4 @@ returns c = search (start-set, needs)
 
 pub set-start-spec : {M : Type 1} → statement M
 set-start-spec =
-    tie.close (tie.spec place-requires add-put-two put-two-requires same-length returns)
+    tie.close (tie.spec note-at-requires add-put-two put-two-requires same-length returns)
