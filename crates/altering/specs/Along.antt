@@ -14,7 +14,7 @@ use Rattle.edits.specs.Places.{tokens, treeSize, at-number, at-token, at-below,
 use Rattle.edits.specs.One.{Back, keeps-back, keeps-old, keeps-one}
 use Rattle.edits.specs.Edited.{Trees, same-after}
 use Rattle.edits.specs.Before.{before-keeps}
-use Rattle.edits.specs.After.{first, tree-size, Carried, keeps-start, void-carries, after-carries}
+use Rattle.edits.specs.After.{below-tokens, first, tree-size, Carried, keeps-start, void-carries, after-carries}
 use Rattle.matching.specs.Matching.{Apart, Fronts, Carries, keeps-node, void-below}
 
 -- a forest's first tree alone
@@ -23,11 +23,6 @@ first-size Forest.nil = refl
 first-size (Forest.leaf s x g r) = refl
 first-size (Forest.node s M p k r) = omega arith
 
-below-few : (f : Forest) → tokens (below f) ≤ own f
-below-few Forest.nil = omega arith
-below-few (Forest.leaf s x g r) = omega arith
-below-few (Forest.node s M p k r) = omega arith
-
 -- the nodes of a node's subtree start no later than its tokens end
 subtree-token : {F : Forest} {a q m t : ℕ} {f : Forest} → Node F a q m t f → (c : ℕ) → c < treeSize f → (b : ℕ) → b ≡ a + c → (o : Numbered 1 0 0 0 F b) × (o .token ≤ t + own f)
 subtree-token {a = a} {q = q} {m = m} {t = t} {f = f} h zero l b e =
@@ -35,7 +30,7 @@ subtree-token {a = a} {q = q} {m = m} {t = t} {f = f} h zero l b e =
     (record { parent = q; child = m; token = t; forest = f; node = rw z at h }, omega arith)
 subtree-token {a = a} {t = t} {f = f} h (suc c) l b e =
     let o : Numbered (suc a) a 0 t (below f) b = at-node (below f) b (omega arith) (omega (arith, tree-size f)) in
-    (record { parent = o .parent; child = o .child; token = o .token; forest = o .forest; node = at-below h (o .node) }, omega (arith, at-token (o .node) .1, below-few f))
+    (record { parent = o .parent; child = o .child; token = o .token; forest = o .forest; node = at-below h (o .node) }, omega (arith, at-token (o .node) .1, below-tokens f))
 
 module _ {G : Grammar} {e : Edit} {old new : Forest} (h : Trees G e old new) where
   -- the edit that takes it back

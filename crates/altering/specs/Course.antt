@@ -20,7 +20,7 @@ use Rattle.walks.specs.Reading.{valid-one, valid-header}
 use Rattle.plain.specs.Exactly.{accepted-exactly}
 use Rattle.plain.specs.Tokens.{tokenSize, Sentence, tokensFrom, length-tokens}
 use Rattle.plain.specs.Text.{textIn}
-use Rattle.notes.specs.Views.{nodesIn, nodes-in}
+use Rattle.notes.specs.Views.{nodesIn, withPart, nodes-in}
 use Rattle.plain.specs.Machine.{Ground, Done}
 use Rattle.plain.specs.Outcome.{Ran, is-wrong, is-full}
 use Rattle.plain.specs.declared.Parsed.{Parsed}
@@ -38,20 +38,16 @@ use Rattle.altering.specs.Altering.{Doubled, SettledAll}
 
 -- ---- a buffer whose part from a on was lent
 
--- w with b in place of what stood from a on
-abbrev pub withPart : List ℕ → ℕ → List ℕ → List ℕ
-withPart w a b = take a w ++ (b ++ drop (length w - a) (drop a w))
-
 module _ (w b : List ℕ) (a : ℕ) (l : a ≤ length w) where
   front-long : length (take a w) ≡ a
   front-long = omega (arith, length-take a w)
 
-  part-back : drop a (withPart w a b) ≡ b
+  part-back : drop a (withPart w a (length w) b) ≡ b
   part-back =
       let q : drop (length w - a) (drop a w) ≡ [] = drop-of-length-le (drop a w) {i = length w - a} (omega (arith, length-drop a w)) in
       rw q (drop-at (take a w) (b ++ []) a front-long ∙ append-nil b)
 
-  front-kept : (j : ℕ) → j < a → byteAt (withPart w a b) j ≡ byteAt w j
+  front-kept : (j : ℕ) → j < a → byteAt (withPart w a (length w) b) j ≡ byteAt w j
   front-kept j k = List·getD-append (take a w) (b ++ drop (length w - a) (drop a w)) 0 j (omega (arith, front-long)) ∙ getD-take a w j 0 k
 
 -- the tokens that the parse reads behind room for S nodes of its part are those behind both lists
@@ -108,7 +104,7 @@ module _ (rows : List ℕ) (t n start count S : ℕ) (tree w : List ℕ) (o plac
           course-fits = accepted-exactly {G = G} S (tokensFrom text r 0) k (h .valid .some) .0 (d .parses) .fits
 
           abbrev w₂ : List ℕ
-          w₂ = withPart w₁ (nodeSize * S) b
+          w₂ = withPart w₁ (nodeSize * S) (length w₁) b
 
           long₁ : nodeSize * S ≤ length w₁
           long₁ = omega (arith, f .long)

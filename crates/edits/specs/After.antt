@@ -44,7 +44,7 @@ first-below (Forest.leaf s a g r) (Forest.leaf s' a' g' r') h = Same.nil
 first-below (Forest.node s M p k r) (Forest.node s' M' p' k' r') (Same.node h i) = h
 
 -- a node's children have no more tokens than it
-below-tokens : (f : Forest) → tokens (below f) ≤ own f
+pub below-tokens : (f : Forest) → tokens (below f) ≤ own f
 below-tokens Forest.nil = omega arith
 below-tokens (Forest.leaf s a g r) = omega arith
 below-tokens (Forest.node s M p k r) = omega arith

@@ -2,16 +2,17 @@
 use Prim.Native.Nat.{ℕ, _-_, _*_, _≤_, _<_}
 use mathlib.Core.Path.{_≡_, _∙_, subst}
 use mathlib.Core.List.{List, _++_}
-use lib.ListN.{length, take, drop, length-append}
+use lib.ListN.{length, take, drop}
 use lib.Seq.{take-all}
 use native.Mathlib.Omega.{arith}
 use Rattle.base.specs.Bytes.{get16}
 use Rattle.grammar.specs.Grammar.{Grammar}
-use Rattle.grammar.specs.Forest.{Token, Forest, size, yield}
+use Rattle.grammar.specs.Forest.{Token, yield}
 use Rattle.grammar.specs.Rows.{grammarIn}
 use Rattle.trees.specs.Area.{tokensPlace, areaSize, Valid}
 use Rattle.walks.specs.Reading.{valid-header}
 use Rattle.plain.specs.Tokens.{tokenSize, tokenBytes}
+use Rattle.matching.specs.Measure.{few-tokens}
 use Rattle.sentences.specs.Adding.{Added}
 use Rattle.sentences.specs.Leaves.{leavesFrom, leaves-whole, Gave}
 use Rattle.altering.specs.Treed.{Treed, leaves, treed-fits}
@@ -19,12 +20,6 @@ use Rattle.replies.specs.declared.Reason.the-variants as reasons
 use Rattle.replies.specs.declared.Reply.the-variants.{Accepted, Refused}
 use Rattle.kindlesap.specs.ReadBack.{readCounts, needed, Returns, no-tree, short-output, returned}
 use Rattle.kindlesap.specs.Storing.{Slotted}
-
--- no more tokens than nodes
-pub length-yield : (f : Forest) → length (yield f) ≤ size f
-length-yield Forest.nil = omega arith
-length-yield (Forest.leaf s a g r) = omega (arith, length-yield r)
-length-yield (Forest.node s M p k r) = omega (arith, length-append (yield k) (yield r), length-yield k, length-yield r)
 
 module _ (tree output : List ℕ) (G : Grammar) where
   pub returns-wrong : (n S : ℕ) → n ≡ length tree → Slotted n S → S ≡ 0 → Returns tree output G (Refused reasons.WrongTree) output
@@ -48,7 +43,7 @@ module _ (rows : List ℕ) (t n start count S : ℕ) (tree nodes : List ℕ) (o 
   tokens-fit m e =
       let l = treed-fits rows t n start count S tree nodes o h in
       let y = valid-header (h .valid) .tokens in
-      omega (arith, e, y, l, h .count, length-yield (h .valid .tree))
+      omega (arith, e, y, l, h .count, few-tokens (h .valid .tree))
 
   pub returns-given : (output output' : List ℕ) (m i j : ℕ) → m ≡ get16 tree tokensPlace → tokenSize * m ≤ length output → Gave nodes o 0 output 0 m i j output'
       → Returns tree output H (Accepted (readCounts o)) output'

@@ -12,10 +12,11 @@ use Rattle.grammar.specs.Rows.{grammarIn}
 use Rattle.tables.specs.Tables.{Tables}
 use Rattle.trees.specs.Area.{headerSize, slotSize, maxSlots, areaSize, slots, Distinct, Area}
 use Rattle.trees.specs.Nodes.{Node, preorder, lists-forest, build, Formed, build-preorder, derives-formed, Fed, fed-preorder, leavesOf, leaves-yield}
-use Rattle.trees.specs.Coded.{nodeSize, nodesFrom, length-nodes, arityIn}
+use Rattle.trees.specs.Coded.{nodesFrom, length-nodes, arityIn}
 use Rattle.trees.specs.Spread.{slotsOf, Spread, slots-build, size-build}
 use Rattle.plain.specs.Exactly.{accepted-exactly}
-use Rattle.plain.specs.Tokens.{tokenSize, Sentence, tokensFrom}
+use Rattle.plain.specs.Tokens.{Sentence, tokensFrom}
+use Rattle.plain.specs.Text.{parseSize}
 use Rattle.plain.specs.Machine.{Ground, Numbered, Done}
 use Rattle.plain.specs.Outcome.{Told, Ran, is-wrong, is-full, is-good, is-bad}
 use Rattle.plain.specs.declared.Tokens.{Tokens}
@@ -159,5 +160,5 @@ pub sentence-told : {t : ℕ} {b : List ℕ} {r : Tokens} (m : ℕ) → Told t b
 sentence-told m u e = is-good m u e .sentence
 
 -- the work area holds the nodes, the tokens that a parse looks at, and the stack
-pub room-for : (S : ℕ) (tree : List ℕ) (room : ℕ) → Sized S tree → workAreas * length tree ≤ room → nodeSize * S + tokenSize * (S + 1) + S ≤ room
+pub room-for : (S : ℕ) (tree : List ℕ) (room : ℕ) → Sized S tree → workAreas * length tree ≤ room → parseSize S (S + 1) ≤ room
 room-for S tree room z l = omega (arith, z .long, l)

@@ -12,7 +12,7 @@ use Rattle.trees.specs.Slots.{slot-byte}
 use Rattle.trees.specs.Spread.{length-slots}
 use Rattle.walks.specs.Slots.{symbolIn, productionIn, parentIn, tagIn, Fields, fields}
 use Rattle.kindlesap.specs.Parse.{upFrom}
-use Rattle.kindlesap.specs.Returning.{length-yield}
+use Rattle.matching.specs.Measure.{few-tokens}
 use Rattle.listing.specs.Text.{row, firstRow, nodeRows, acceptedText}
 use Rattle.listing.specs.Writing.{Written, written-none, written-join}
 
@@ -105,5 +105,5 @@ tokens-in S f b h l =
 pub accepted-text : (S : ℕ) (f : Forest) (b : List ℕ) → S ≤ maxSlots → Area S f b → size f ≤ S → slots f ≡ upFrom 1 (size f) → areaText b (size f) ≡ acceptedText f
 unfolding areaText acceptedText
 accepted-text S f b l h m e =
-    let t : get16 b tokensPlace ≡ length (yield f) = tokens-in S f b h (omega (arith, length-yield f)) in
+    let t : get16 b tokensPlace ≡ length (yield f) = tokens-in S f b h (omega (arith, few-tokens f)) in
     rw (t, rows-linked b 1 (h .linked) (omega arith) (omega arith) e)

@@ -14,7 +14,7 @@ use native.Mathlib.Numerals.{add-one}
 use native.Mathlib.Omega.{arith}
 use Rattle.io.specs.Counts.{Counts}
 use Rattle.io.specs.Digits.{digits, Fewest}
-use Rattle.base.specs.Choose.{choose-yes, choose-no}
+use Rattle.base.specs.Choose.{choose-of, choose-yes, choose-no}
 use Rattle.base.specs.Blocks.{copied}
 use Rattle.trees.specs.Area.{maxSlots}
 use Rattle.listing.specs.Text.{digitsOf, mostDigits, field, row, space, newline, acceptedWord, refusedWord, firstRow, refusedText}
@@ -83,6 +83,13 @@ written-counts {w' = w'} {e = e} h =
     (omega (arith, q, length-take e w'), sym q)
 
 -- ---- a number's digits
+
+pub length-digits : (f n : ℕ) → length (digitsOf f n) ≤ f
+unfolding digitsOf
+length-digits zero n = omega arith
+length-digits (suc f) n =
+    choose-of (λ (u : List ℕ). length u ≤ suc f) (ltb n 10) (λ _. (48 + n) ∷ []) (λ _. digitsOf f (n / 10) ++ ((48 + n % 10) ∷ [])) (λ _. omega arith)
+    (λ _. omega (arith, length-digits f (n / 10), length-append (digitsOf f (n / 10)) ((48 + n % 10) ∷ [])))
 
 glyph-low : (d : ℕ) → d < 10 → cond (ltb d 10) (48 + d) (87 + d) ≡ 48 + d
 glyph-low d l = rw (lt-ltb d 10 l)

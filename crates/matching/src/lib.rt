@@ -48,7 +48,7 @@ fn span_of(work: &[u8], slots: usize, base: usize, n: usize, rows: &[u8], i: usi
 }
 
 // Measures the n nodes from `base` on.
-pub fn measure(work: &mut [u8], slots: usize, base: usize, n: usize, rows: &[u8])
+fn measure(work: &mut [u8], slots: usize, base: usize, n: usize, rows: &[u8])
     requires { ⌜ Built (now rows) (nodesIn slots (now work)) n base × (slots ≤ maxSlots) × (notesSize slots ≤ length (now work)) × (base + n ≤ slots + slots) ⌝ }
     ensures { λ _. ⌜ Gauged (treeIn (now (rows .entry)) (nodesIn slots (now (work .entry))) n base) base 0 (endsIn slots (now (work .entry))) (widthsIn slots (now (work .entry))) (endsIn slots (now (work .exit))) (widthsIn slots (now (work .exit))) × Viewed slots (now (work .exit)) (nodesIn slots (now (work .entry))) (endsIn slots (now (work .exit))) (widthsIn slots (now (work .exit))) (startsIn slots (now (work .entry))) (matchesIn slots (now (work .entry))) ⌝ }
 {
@@ -61,7 +61,7 @@ pub fn measure(work: &mut [u8], slots: usize, base: usize, n: usize, rows: &[u8]
 }
 
 // Where the nodes of each token begin among the first n; the number of tokens. The first begin at 0, as the first entry says.
-pub fn mark_starts(work: &mut [u8], n: usize, slots: usize) -> usize
+fn mark_starts(work: &mut [u8], n: usize, slots: usize) -> usize
     requires { ⌜ (n ≤ slots) × (slots ≤ maxSlots) × (notesSize slots ≤ length (now work)) × (getD (startsIn slots (now work)) 0 0 ≡ 0) ⌝ }
     ensures { λ r. ⌜ Started (nodesIn slots (now (work .entry))) n r (startsIn slots (now (work .exit))) × Viewed slots (now (work .exit)) (nodesIn slots (now (work .entry))) (endsIn slots (now (work .entry))) (widthsIn slots (now (work .entry))) (startsIn slots (now (work .exit))) (matchesIn slots (now (work .entry))) × (r ≤ n) ⌝ }
 {

@@ -4,8 +4,7 @@ ghost use Prim.Native.Nat.{_+_, _*_, _≤_};
 ghost use lib.ListN.{length};
 ghost use Rattle.grammar.specs.Rows.{grammarIn};
 ghost use Rattle.trees.specs.Area.{maxSlots};
-ghost use Rattle.trees.specs.Coded.{nodeSize};
-ghost use Rattle.plain.specs.Tokens.{tokenSize};
+ghost use Rattle.plain.specs.Text.{parseSize};
 ghost use Rattle.plain.specs.Machine.{Ground};
 ghost use Rattle.plain.specs.Outcome.{Ran};
 
@@ -22,7 +21,7 @@ pub fn parse_lent(
     slots: usize,
     work: &mut [u8],
 ) -> Parsed
-    requires { ⌜ Ground (now rows) t n start count (now tables) (now tokens) m × (1 ≤ slots) × (slots ≤ maxSlots) × (nodeSize * slots + tokenSize * (slots + 1) + slots ≤ length (now work)) ⌝ }
+    requires { ⌜ Ground (now rows) t n start count (now tables) (now tokens) m × (1 ≤ slots) × (slots ≤ maxSlots) × (parseSize slots (slots + 1) ≤ length (now work)) ⌝ }
     ensures { λ r. ⌜ Ran (grammarIn (now (rows .entry)) t n start count) slots (now (tokens .entry)) m (now (work .exit)) r ⌝ }
 {
     let r = base::least(m, slots + 1);

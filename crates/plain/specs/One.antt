@@ -1,5 +1,5 @@
 -- A parse has one verdict.
-use Prim.Native.Nat.{ℕ, suc, _+_}
+use Prim.Native.Nat.{ℕ, _+_}
 use mathlib.Core.Path.{_≡_, refl, ap, subst}
 use mathlib.Core.List.{List, _∷_, _++_}
 use lib.ListN.{length}

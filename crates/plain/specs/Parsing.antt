@@ -1,7 +1,7 @@
 -- A parse on its way, with the nodes that it has written: what it comes to from here is what it comes to from the start, and a derivation of the symbols that are left
 -- completes one of the start symbol.
 use Prim.Native.Nat.{ℕ, zero, suc, _+_, _≤_, _<_}
-use mathlib.Core.Path.{_≡_, refl, sym, ap, _∙_}
+use mathlib.Core.Path.{_≡_, refl, ap, _∙_}
 use mathlib.Core.List.{List, [], _∷_, _++_, append-assoc, append-nil}
 use lib.ListN.{length, length-append}
 use native.Mathlib.Omega.{arith}

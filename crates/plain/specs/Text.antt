@@ -13,6 +13,10 @@ use Rattle.trees.specs.Listing.{Put}
 use Rattle.plain.specs.Tokens.{tokenSize}
 use Rattle.plain.specs.Machine.{Begun}
 
+-- what a parse of m tokens into S slots takes: the nodes, the tokens and the stack
+abbrev pub parseSize : ℕ → ℕ → ℕ
+parseSize S m = nodeSize * S + tokenSize * m + S
+
 -- the bytes of m tokens behind the room for S nodes
 unfoldable pub textIn : ℕ → ℕ → List ℕ → List ℕ
 textIn S m w = take (nodeSize * S + tokenSize * m - nodeSize * S) (drop (nodeSize * S) w)

@@ -6,10 +6,8 @@ ghost use Rattle.base.specs.Filled.{Filled};
 ghost use Rattle.grammar.specs.Limits.{maxBody, maxNonterminals, columns};
 ghost use Rattle.grammar.specs.Rows.{symbolAt, grammarIn};
 ghost use Rattle.trees.specs.Area.{maxSlots};
-ghost use Rattle.trees.specs.Coded.{nodeSize};
 ghost use Rattle.plain.specs.Machine.{Lit, marked as markedm, Ground, Begun, At};
-ghost use Rattle.plain.specs.Tokens.{tokenSize};
-ghost use Rattle.plain.specs.Text.{textIn};
+ghost use Rattle.plain.specs.Text.{textIn, parseSize};
 ghost use Rattle.plain.specs.Outcome.{Told, Ran, Turned};
 
 pub const TOKEN_SIZE: usize = 5;
@@ -107,7 +105,7 @@ fn step(
     p: usize,
     k: usize,
 ) -> Turn
-    requires { ⌜ Ground (now rows) t n start count (now tables) (textIn slots m (now work)) m × (slots ≤ maxSlots) × (nodeSize * slots + tokenSize * m + slots ≤ length (now work)) × (o < slots) × (p ≤ length (now work)) × (o + (length (now work) - p) ≤ slots) × (k ≤ m) × At (grammarIn (now rows) t n start count) slots (textIn slots m (now work)) m (now work) p o k ⌝ }
+    requires { ⌜ Ground (now rows) t n start count (now tables) (textIn slots m (now work)) m × (slots ≤ maxSlots) × (parseSize slots m ≤ length (now work)) × (o < slots) × (p ≤ length (now work)) × (o + (length (now work) - p) ≤ slots) × (k ≤ m) × At (grammarIn (now rows) t n start count) slots (textIn slots m (now work)) m (now work) p o k ⌝ }
     ensures { λ r. ⌜ Turned (grammarIn (now (rows .entry)) t n start count) slots (textIn slots m (now (work .entry))) m (now (work .entry)) (now (work .exit)) o r × (textIn slots m (now (work .exit)) ≡ textIn slots m (now (work .entry))) ⌝ }
 {
     let end = work.len();
@@ -165,7 +163,7 @@ pub fn parse(
     slots: usize,
     work: &mut [u8],
 ) -> Parsed
-    requires { ⌜ Ground (now rows) t n start count (now tables) (textIn slots m (now work)) m × (1 ≤ slots) × (slots ≤ maxSlots) × (nodeSize * slots + tokenSize * m + slots ≤ length (now work)) ⌝ }
+    requires { ⌜ Ground (now rows) t n start count (now tables) (textIn slots m (now work)) m × (1 ≤ slots) × (slots ≤ maxSlots) × (parseSize slots m ≤ length (now work)) ⌝ }
     ensures { λ r. ⌜ Ran (grammarIn (now (rows .entry)) t n start count) slots (textIn slots m (now (work .entry))) m (now (work .exit)) r ⌝ }
 {
     let mut p = begin(work, start as u8);

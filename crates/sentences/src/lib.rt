@@ -31,7 +31,7 @@ fn put_token(out: &mut [u8], at: usize, kind: usize, tag: usize)
 }
 
 // Writes the tokens of the leaves among n nodes, from node `from` on: the first one as token `at`, the last one before token `end`. The tokens stand behind the nodes, from byte `text` on.
-pub fn give(work: &mut [u8], n: usize, from: usize, text: usize, at: usize, end: usize) -> Reached
+fn give(work: &mut [u8], n: usize, from: usize, text: usize, at: usize, end: usize) -> Reached
     requires { ⌜ (n ≤ maxSlots) × (from ≤ n) × (at ≤ end) × (nodeSize * n ≤ text) × (text + tokenSize * end ≤ length (now work)) ⌝ }
     ensures { λ r. ⌜ Gave (now (work .entry)) n from (drop text (now (work .entry))) at end (r .node) (r .token) (drop text (now (work .exit))) × Fronted text (now (work .entry)) (now (work .exit)) × (r .node ≤ n) × (r .token ≤ end) ⌝ }
 {

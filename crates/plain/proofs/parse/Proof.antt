@@ -1,11 +1,9 @@
-use Rattle.plain.specs.Tokens.{tokenSize}
 use Rattle.plain.specs.Machine.{Ground, At, start-small, at-start, at-end, at-rest}
-use Rattle.plain.specs.Text.{textIn, text-begun}
+use Rattle.plain.specs.Text.{textIn, parseSize, text-begun}
 use Rattle.plain.specs.Outcome.{ran-done, ran-wrong, turns, turned-at, turned-over, ground-same, at-same, ran-same}
 use Rattle.grammar.specs.Rows.{grammarIn}
 use Rattle.trees.specs.Area.{maxSlots}
-use Rattle.trees.specs.Coded.{nodeSize}
-use Prim.Native.Nat.{_+_, _-_, _*_, _≤_}
+use Prim.Native.Nat.{_+_, _-_, _≤_}
 use mathlib.Core.Path.{_≡_, refl, sym, _∙_}
 use lib.ListN.{length}
 use borrow.Author.Needs.{needs}
@@ -13,7 +11,7 @@ use Rattle.plain.proofs.parse.Statement.{statement}
 use Rattle.plain.proofs.parse.Tie as tie
 
 abbrev Inv-loop : tie.InvT-loop
-Inv-loop m tables rows t n start count slots work₀ p₀ k₀ o₀ work p k o = Ground rows t n start count tables (textIn slots m work₀) m × (slots ≤ maxSlots) × (nodeSize * slots + tokenSize * m + slots ≤ length work) × (o ≤ slots) × (p ≤ length work) × (o + (length work - p) ≤ slots) × (k ≤ m) × (length work ≡ length work₀) × At (grammarIn rows t n start count) slots (textIn slots m work₀) m work p o k × (textIn slots m work ≡ textIn slots m work₀)
+Inv-loop m tables rows t n start count slots work₀ p₀ k₀ o₀ work p k o = Ground rows t n start count tables (textIn slots m work₀) m × (slots ≤ maxSlots) × (parseSize slots m ≤ length work) × (o ≤ slots) × (p ≤ length work) × (o + (length work - p) ≤ slots) × (k ≤ m) × (length work ≡ length work₀) × At (grammarIn rows t n start count) slots (textIn slots m work₀) m work p o k × (textIn slots m work ≡ textIn slots m work₀)
 
 abbrev μ-loop : tie.MeasureT-loop
 μ-loop m tables rows t n start count slots work₀ p₀ k₀ o₀ work p k o = slots - o
