@@ -6,11 +6,11 @@ use replies::Reason;
 use replies::Reply;
 use walks::Walked;
 ghost use mathlib.Core.Path.{_≡_};
-ghost use Prim.Native.Nat.{_-_, _*_, _≤_};
+ghost use Prim.Native.Nat.{_-_, _*_, _≤_, _<_};
 ghost use lib.ListN.{length};
 ghost use Rattle.base.specs.Tells.{Tells};
 ghost use Rattle.grammar.specs.Prediction.{Prepared};
-ghost use Rattle.grammar.specs.Rows.{grammarIn};
+ghost use Rattle.grammar.specs.Rows.{symbolSpace, grammarIn};
 ghost use Rattle.tables.specs.Tables.{Tables};
 ghost use Rattle.trees.specs.Area.{maxSlots, areaSize, Valid};
 ghost use Rattle.plain.specs.Outcome.{Counted};
@@ -171,7 +171,7 @@ fn is_tree(
     start: usize,
     count: usize,
 ) -> bool
-    requires { ⌜ (1 ≤ slots) × (slots ≤ maxSlots) × (length (now tree) ≡ areaSize slots) ⌝ }
+    requires { ⌜ (1 ≤ slots) × (slots ≤ maxSlots) × (length (now tree) ≡ areaSize slots) × (start < symbolSpace) ⌝ }
     ensures { λ r. ⌜ Tells (Valid (grammarIn (now (rows .entry)) t n start count) slots (now (tree .entry))) r ⌝ }
 {
     let mut work = [0u8; walks::WALK_SIZE];

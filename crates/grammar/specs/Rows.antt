@@ -175,6 +175,11 @@ rows-grammar G f =
     let e = productions-in small [] (G .productions) (zeros (rowsSize - length (G .productions) * rowSize)) Each.nil (f .each) in
     λ i. record { t = G .t; n = G .n; start = G .start; productions = e i }
 
+-- a start symbol is a small number, too
+pub start-small : (rows : List ℕ) (t n start count : ℕ) → WellFormed (grammarIn rows t n start count) → start < symbolSpace
+unfolding grammarIn
+start-small rows t n start count f = omega (arith, f .head .terminals .1, f .head .nonterminals .1, f .head .start .1)
+
 -- ---- reading a row, as the code does it
 
 module _ (rows : List ℕ) (p : ℕ) where

@@ -9,7 +9,7 @@ use Rattle.grammar.specs.Grammar.{Grammar, WellFormed}
 use Rattle.grammar.specs.Derivation.{Useless, Lowest}
 use Rattle.grammar.specs.Prediction.{Conflict}
 use Rattle.grammar.specs.Image.{Image, Bad}
-use Rattle.grammar.specs.Rows.{symbolSpace, grammarIn, rowsOf, rows-grammar}
+use Rattle.grammar.specs.Rows.{symbolSpace, grammarIn, rowsOf, rows-grammar, start-small}
 use Rattle.grammar.specs.Outcome.{headOf, Reads, reads-good, reads-bad}
 use Rattle.grammar.specs.declared.Head.{Head}
 use Rattle.grammar.specs.declared.GrammarRead.{GrammarRead}
@@ -38,7 +38,7 @@ pub data Found (rows : List ℕ) (t n start count : ℕ) (s cells : List ℕ) : 
 module _ (rows : List ℕ) (t n start count : ℕ) (f : WellFormed (grammarIn rows t n start count)) where
   pub bounds : (t ≤ maxTerminals) × (n ≤ maxNonterminals) × (start < symbolSpace)
   unfolding grammarIn
-  bounds = (f .head .terminals .1, f .head .nonterminals .1, omega (arith, f .head .terminals .1, f .head .nonterminals .1, f .head .start .1))
+  bounds = (f .head .terminals .1, f .head .nonterminals .1, start-small rows t n start count f)
 
   module _ (s : List ℕ) (k : (m : ℕ) → Known (grammarIn rows t m start count) s) where
     pub have-rows : Rowed rows t count

@@ -8,7 +8,7 @@ use walks::Walked;
 ghost use Prim.Native.Nat.{_+_, _*_, _<_, _≤_};
 ghost use lib.ListN.{length};
 ghost use Rattle.grammar.specs.Limits.{maxProductions};
-ghost use Rattle.grammar.specs.Rows.{grammarIn};
+ghost use Rattle.grammar.specs.Rows.{symbolSpace, grammarIn};
 ghost use Rattle.grammar.specs.Grammar.{WellFormed};
 ghost use Rattle.trees.specs.Coded.{nodeSize};
 ghost use Rattle.plain.specs.Tokens.{tokenSize};
@@ -56,6 +56,7 @@ fn read_fit(
     tree: &[u8],
     output: &mut [u8],
 ) -> Reply
+    requires { ⌜ start < symbolSpace ⌝ }
     ensures { λ r. ⌜ Returns (now (tree .entry)) (now (output .entry)) (grammarIn (now (rows .entry)) t n start count) r (now (output .exit)) ⌝ }
 {
     let slots = crate::slots_of(tree.len());

@@ -27,7 +27,7 @@ use Rattle.walks.specs.Slots.{Known, sixteen}
 use Rattle.walks.specs.Judging.{below}
 use Rattle.walks.specs.Going.{going-end, going-one}
 use Rattle.walks.specs.Reading.{leafCount, leaves-few, Free, found-valid, valid-few, valid-found, size-preorder}
-use Rattle.walks.specs.Stacked.{marksIn}
+use Rattle.walks.specs.Stacked.{get64, get64-two, marksIn}
 use Rattle.walks.specs.Walking.{gram, Ended, Wandered}
 
 -- ---- the header
@@ -125,6 +125,67 @@ module _ (b m : List ℕ) (s : ℕ) where
   pub clear-all : (S : ℕ) → S < s → ClearTo b m s → Tells (ClearTo b m (S + 1)) true
   clear-all S o k = tells-yes (record { each = λ x a c. k .each x a (omega arith) })
 
+-- so many slots are looked at at once
+abbrev pub visitedRun : ℕ
+visitedRun = 64
+
+abbrev pub freeRun : ℕ
+freeRun = 16
+
+-- the n slots from s on were visited
+pub record VisitedFrom (m : List ℕ) (s n : ℕ) : Type 0 where
+  pub each : (d : ℕ) → d < n → byteAt m (s + d) ≡ 1
+
+module _ (m : List ℕ) (s : ℕ) where
+  pub visited-none : VisitedFrom m s 0
+  visited-none = record { each = λ d o. absurd (omega arith) }
+
+  pub visited-four : (u : ℕ) → Known m → u ≡ get32 m s → u ≡ 0x01010101 → VisitedFrom m s 4
+  visited-four u k e o =
+      let a0 = k .small s in
+      let a1 = k .small (s + 1) in
+      let a2 = k .small (s + 2) in
+      let a3 = k .small (s + 3) in
+      let P : ℕ → Type 0 = λ d. byteAt m (s + d) ≡ 1 in
+      let q : s + 0 ≡ s = omega arith in
+      let p0 : P 0 = rw q (omega (arith, e, o)) in
+      record { each = below-more P 3 (below-more P 2 (below-more P 1 (below-more P 0 (λ i w. absurd (omega arith)) p0) (omega (arith, e, o))) (omega (arith, e, o))) (omega (arith, e, o)) }
+
+pub visited-join : {m : List ℕ} {s n r : ℕ} → VisitedFrom m s n → VisitedFrom m (s + n) r → VisitedFrom m s (n + r)
+visited-join {m} {s} {n} h k =
+    record { each = λ d o. ⊎-elim (λ y. h .each d y) (λ y. let q : s + n + (d - n) ≡ s + d = omega arith in rw q at (k .each (d - n) (omega arith))) (below d n) }
+
+-- eight marks at once, and again
+module _ (m : List ℕ) (s : ℕ) where
+  small : Known m → (i : ℕ) → get32 m i < 4294967296
+  small k i = let a0 = k .small i in let a1 = k .small (i + 1) in let a2 = k .small (i + 2) in let a3 = k .small (i + 3) in omega arith
+
+  pub visited-more : (k u : ℕ) → Known m → u ≡ get64 m (s + k) → u ≡ 0x0101010101010101 → VisitedFrom m s k → VisitedFrom m s (k + 8)
+  visited-more k u kn e o h =
+      let q = get64-two m (s + k) (get32 m (s + k)) (get32 m (s + k + 4)) refl refl in
+      let a = small kn (s + k) in
+      let c = small kn (s + k + 4) in
+      let low = visited-four m (s + k) (get32 m (s + k)) kn refl (omega arith) in
+      let high = visited-four m (s + k + 4) (get32 m (s + k + 4)) kn refl (omega arith) in
+      visited-join h (visited-join low high)
+
+  pub visited-all : (n k : ℕ) → n ≤ k → VisitedFrom m s k → Tells (VisitedFrom m s n) true
+  visited-all n k l h = tells-yes (record { each = λ d o. h .each d (omega arith) })
+
+  pub visited-not : (n k u : ℕ) → k + 8 ≤ n → u ≡ get64 m (s + k) → (u ≡ 0x0101010101010101 → ⊥) → Tells (VisitedFrom m s n) false
+  visited-not n k u l e o =
+      tells-no (λ h. let at : (j i : ℕ) → j < 8 → i ≡ s + (k + j) → byteAt m i ≡ 1 = λ j i w q. ap (byteAt m) q ∙ h .each (k + j) (omega arith) in
+      let b0 = at 0 (s + k) (omega arith) (omega arith) in
+      let b1 = at 1 (s + k + 1) (omega arith) (omega arith) in
+      let b2 = at 2 (s + k + 2) (omega arith) (omega arith) in
+      let b3 = at 3 (s + k + 3) (omega arith) (omega arith) in
+      let b4 = at 4 (s + k + 4) (omega arith) (omega arith) in
+      let b5 = at 5 (s + k + 4 + 1) (omega arith) (omega arith) in
+      let b6 = at 6 (s + k + 4 + 2) (omega arith) (omega arith) in
+      let b7 = at 7 (s + k + 4 + 3) (omega arith) (omega arith) in
+      let q = get64-two m (s + k) (get32 m (s + k)) (get32 m (s + k + 4)) refl refl in
+      o (omega (arith, e, q)))
+
 -- the r slots from s on are slots of the area, and clear
 pub record Run (b m : List ℕ) (s S r : ℕ) : Type 0 where
   pub few : s + r ≤ S + 1
@@ -134,46 +195,15 @@ module _ (b m : List ℕ) where
   pub run-none : (s S : ℕ) → s ≤ S → Run b m s S 0
   run-none s S l = record { few = omega arith; clear = λ d o. absurd (omega arith) }
 
-  four : (s u : ℕ) → Known m → u ≡ get32 m s → u ≡ 0x01010101 → (d : ℕ) → d < 4 → Clear b m (s + d)
-  four s u k e o =
-      let a0 = k .small s in
-      let a1 = k .small (s + 1) in
-      let a2 = k .small (s + 2) in
-      let a3 = k .small (s + 3) in
-      let P : ℕ → Type 0 = λ d. Clear b m (s + d) in
-      let q : s + 0 ≡ s = omega arith in
-      let p0 : P 0 = rw q (record { zero = λ z. absurd (omega (arith, e, o, z)) }) in
-      let p1 : P 1 = record { zero = λ z. absurd (omega (arith, e, o, z)) } in
-      let p2 : P 2 = record { zero = λ z. absurd (omega (arith, e, o, z)) } in
-      let p3 : P 3 = record { zero = λ z. absurd (omega (arith, e, o, z)) } in
-      below-more P 3 (below-more P 2 (below-more P 1 (below-more P 0 (λ i w. absurd (omega arith)) p0) p1) p2) p3
+  -- the slots that were visited
+  pub run-visited : (s S r : ℕ) → s + r ≤ S + 1 → VisitedFrom m s r → Run b m s S r
+  run-visited s S r l h = record { few = l; clear = λ d o. record { zero = λ z. absurd (omega (arith, z, h .each d o)) } }
 
-  -- four marks at once, and again
-  module _ (s S : ℕ) (k : Known m) (l : s + 15 ≤ S) where
-    more : (r u : ℕ) → r ≤ 12 → Run b m s S r → u ≡ get32 m (s + r) → u ≡ 0x01010101 → Run b m s S (r + 4)
-    more r u o h e f =
-        record {
-          few = omega arith;
-          clear = λ d i. ⊎-elim (λ y. h .clear d y) (λ y. let q : s + r + (d - r) ≡ s + d = omega arith in rw q at (four (s + r) u k e f (d - r) (omega arith))) (below d r);
-        }
-
-    module _ (u : ℕ) (eu : u ≡ get32 m s) (fu : u ≡ 0x01010101) where
-      pub run-4 : Run b m s S 4
-      run-4 = record { few = omega arith; clear = four s u k eu fu }
-
-      module _ (v : ℕ) (ev : v ≡ get32 m (s + 4)) (fv : v ≡ 0x01010101) where
-        pub run-8 : Run b m s S 8
-        run-8 = more 4 v (omega arith) run-4 ev fv
-
-        module _ (x : ℕ) (ex : x ≡ get32 m (s + 8)) (fx : x ≡ 0x01010101) where
-          pub run-12 : Run b m s S 12
-          run-12 = more 8 x (omega arith) run-8 ex fx
-
-          pub run-16 : (y : ℕ) → y ≡ get32 m (s + 12) → y ≡ 0x01010101 → Run b m s S 16
-          run-16 y ey fy = more 12 y (omega arith) run-12 ey fy
+  pub run-four : (s S u : ℕ) → Known m → s + 16 ≤ S + 1 → u ≡ get32 m s → u ≡ 0x01010101 → Run b m s S 4
+  run-four s S u k l e o = run-visited s S 4 (omega arith) (visited-four m s u k e o)
 
   -- sixteen slots at once
-  pub run-zero : (s S : ℕ) → s + 15 ≤ S → take (slotSize * s + 256 - slotSize * s) (drop (slotSize * s) b) ≡ zeros (length (take (slotSize * s + 256 - slotSize * s) (drop (slotSize * s) b)))
+  pub run-zero : (s S : ℕ) → s + 16 ≤ S + 1 → take (slotSize * s + 256 - slotSize * s) (drop (slotSize * s) b) ≡ zeros (length (take (slotSize * s + 256 - slotSize * s) (drop (slotSize * s) b)))
       → slotSize * s + 256 ≤ length b → Run b m s S 16
   run-zero s S l z n = record { few = omega arith; clear = λ d o. record { zero = λ _. at d o } }
     where

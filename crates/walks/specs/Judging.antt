@@ -8,7 +8,7 @@ use lib.ListN.{length, getD, set}
 use native.Mathlib.Omega.{arith}
 use Rattle.base.specs.Choose.{never}
 use Rattle.base.specs.Tells.{Tells, tells-yes, tells-no}
-use Rattle.base.specs.Bytes.{byteAt, get16}
+use Rattle.base.specs.Bytes.{byteAt, get16, get32, get32-two}
 use Rattle.grammar.specs.Grammar.{TerminalOf}
 use Rattle.grammar.specs.Rows.{leftAt}
 use Rattle.grammar.specs.RowRules.{bodyAt}
@@ -17,18 +17,22 @@ use Rattle.trees.specs.Nodes.{leafOf}
 use Rattle.trees.specs.Listing.{nodeOf, Put}
 use Rattle.walks.specs.declared.Kids.{Kids}
 use Rattle.walks.specs.declared.Kids.the-variants.{Leaf, Body, Unfit}
-use Rattle.walks.specs.Slots.{symbolIn, productionIn, parentIn, tagIn, fields, Known, Used, slot-used}
+use Rattle.walks.specs.Slots.{symbolIn, productionIn, parentIn, firstIn, tagIn, fields, Known, Used, slot-used}
 use Rattle.walks.specs.Digits.{Digits, digits-head}
 use Rattle.walks.specs.Words.{wordCount, Worded}
 use Rattle.walks.specs.Stacked.{marksAt}
 
 -- ---- the slot
 
--- slot s is a used one with the symbol x below the slot `par`
-pub record Suits (b : List ℕ) (s par x : ℕ) : Type 0 where
+-- slot s is a used one with the symbol x
+pub record Looks (b : List ℕ) (s x : ℕ) : Type 0 where
   pub used : Used b s
   pub symbol : symbolIn b s ≡ x
+
+-- it is below the slot `par`, and has no first child where its children's symbols are those of the body 0
+pub record Hangs (b : List ℕ) (s par body : ℕ) : Type 0 where
   pub parent : parentIn b s ≡ par
+  pub bare : body ≡ 0 → firstIn b s ≡ 0
 
 -- its symbol and its production as a two-byte number
 both-in : (b : List ℕ) (s v : ℕ) → v ≡ get16 b (slotSize * s + 2) → Known b → (v % 256 ≡ symbolIn b s) × (v / 256 ≡ productionIn b s)
@@ -38,29 +42,26 @@ both-in b s v e k =
     let c = k .small (slotSize * s + 2) in
     (omega (arith, e, c), omega (arith, e, o, c))
 
-pub suits-low : {b : List ℕ} {s par x : ℕ} → Known b → Suits b s par x → x < 256
-suits-low {s = s} k h = omega (arith, h .symbol, k .small (slotSize * s + 2))
+pub looks-low : {b : List ℕ} {s x : ℕ} → Known b → Looks b s x → x < 256
+looks-low {s = s} k h = omega (arith, h .symbol, k .small (slotSize * s + 2))
 
 -- as the code finds it
-module _ (b : List ℕ) (s par x : ℕ) where
-  pub suits-mark : (v : ℕ) → v ≡ get16 b (slotSize * s) → (v ≡ 0x444E → ⊥) → Tells (Suits b s par x) false
-  suits-mark v e n = tells-no (λ h. let f = fields b s (h .used .is) in n (omega (arith, e, f .mark, f .mark')))
+module _ (b : List ℕ) (s x : ℕ) where
+  pub looks-mark : (v : ℕ) → v ≡ get16 b (slotSize * s) → (v ≡ 0x444E → ⊥) → Tells (Looks b s x) false
+  looks-mark v e n = tells-no (λ h. let f = fields b s (h .used .is) in n (omega (arith, e, f .mark, f .mark')))
 
-  pub suits-spare : (v : ℕ) → v ≡ get16 b (slotSize * s + 14) → (v ≡ 0 → ⊥) → Tells (Suits b s par x) false
-  suits-spare v e n =
+  pub looks-spare : (v : ℕ) → v ≡ get16 b (slotSize * s + 14) → (v ≡ 0 → ⊥) → Tells (Looks b s x) false
+  looks-spare v e n =
       let q : slotSize * s + 14 + 1 ≡ slotSize * s + 15 = omega arith in
       let o = ap (byteAt b) q in
       tells-no (λ h. let f = fields b s (h .used .is) in n (omega (arith, e, o, f .spare, f .spare')))
 
-  pub suits-symbol : (v : ℕ) → Known b → v ≡ get16 b (slotSize * s + 2) → (v % 256 ≡ x → ⊥) → Tells (Suits b s par x) false
-  suits-symbol v k e n = tells-no (λ h. n (both-in b s v e k .0 ∙ h .symbol))
+  pub looks-symbol : (v : ℕ) → Known b → v ≡ get16 b (slotSize * s + 2) → (v % 256 ≡ x → ⊥) → Tells (Looks b s x) false
+  looks-symbol v k e n = tells-no (λ h. n (both-in b s v e k .0 ∙ h .symbol))
 
-  pub suits-parent : (v : ℕ) → v ≡ parentIn b s → (v ≡ par → ⊥) → Tells (Suits b s par x) false
-  suits-parent v e n = tells-no (λ h. n (e ∙ h .parent))
-
-  pub suits-yes : (u v y z : ℕ) → Known b → slotSize * s + slotSize ≤ length b → u ≡ get16 b (slotSize * s) → u ≡ 0x444E → v ≡ get16 b (slotSize * s + 14) → v ≡ 0
-      → y ≡ get16 b (slotSize * s + 2) → y % 256 ≡ x → z ≡ parentIn b s → z ≡ par → Tells (Suits b s par x) true
-  suits-yes u v y z k l eu u' ev v' ey y' ez z' =
+  pub looks-yes : (u v y : ℕ) → Known b → slotSize * s + slotSize ≤ length b → u ≡ get16 b (slotSize * s) → u ≡ 0x444E → v ≡ get16 b (slotSize * s + 14) → v ≡ 0
+      → y ≡ get16 b (slotSize * s + 2) → y % 256 ≡ x → Tells (Looks b s x) true
+  looks-yes u v y k l eu u' ev v' ey y' =
       let q : slotSize * s + 14 + 1 ≡ slotSize * s + 15 = omega arith in
       let o = ap (byteAt b) q in
       let c0 = k .small (slotSize * s) in
@@ -68,10 +69,29 @@ module _ (b : List ℕ) (s par x : ℕ) where
       tells-yes (record {
         used = slot-used b s k l (omega (arith, eu, u', c0, c1)) (omega (arith, eu, u', c0, c1)) (omega (arith, ev, v', o)) (omega (arith, ev, v', o));
         symbol = sym (both-in b s y ey k .0) ∙ y';
-        parent = sym ez ∙ z';
       })
 
-pub ruleset suiting = (suits-mark, suits-spare, suits-parent)
+pub ruleset looking = (looks-mark, looks-spare)
+
+module _ (b : List ℕ) (s par body : ℕ) where
+  whole : parentIn b s + 65536 * firstIn b s ≡ get32 b (slotSize * s + 4)
+  whole =
+      let q : slotSize * s + 6 ≡ slotSize * s + 4 + 2 = omega arith in
+      get32-two b (slotSize * s + 4) (parentIn b s) (firstIn b s) refl (ap (λ (i : ℕ). get16 b i) q)
+
+  pub hangs-bare : (u : ℕ) → u ≡ get32 b (slotSize * s + 4) → body ≡ 0 → par < 65536 → u ≡ par → Tells (Hangs b s par body) true
+  hangs-bare u e z l o = tells-yes (record { parent = omega (arith, e, o, whole); bare = λ _. omega (arith, e, o, whole) })
+
+  pub hangs-not : (u : ℕ) → u ≡ get32 b (slotSize * s + 4) → body ≡ 0 → (u ≡ par → ⊥) → Tells (Hangs b s par body) false
+  hangs-not u e z n = tells-no (λ h. n (omega (arith, e, whole, h .parent, h .bare z)))
+
+  pub hangs-below : (u : ℕ) → u ≡ parentIn b s → (body ≡ 0 → ⊥) → u ≡ par → Tells (Hangs b s par body) true
+  hangs-below u e n o = tells-yes (record { parent = sym e ∙ o; bare = λ z. absurd (n z) })
+
+  pub hangs-elsewhere : (u : ℕ) → u ≡ parentIn b s → (u ≡ par → ⊥) → Tells (Hangs b s par body) false
+  hangs-elsewhere u e n = tells-no (λ h. n (e ∙ h .parent))
+
+pub ruleset hanging = (hangs-bare, hangs-not, hangs-below, hangs-elsewhere)
 
 -- ---- the children
 
@@ -130,9 +150,10 @@ kin-counts (Kin.node e l o z d) Counts.body = sym (ap leafOf e)
 
 -- slot s is the node that is expected, and this is found of its children
 pub record Meets (rows : List ℕ) (t count : ℕ) (b : List ℕ) (s par x : ℕ) (k : Kids) : Type 0 where
-  pub suits : Suits b s par x
+  pub looks : Looks b s x
   pub kin : Kin rows t count x (productionIn b s) (tagIn b s) k
   pub tag : tagIn b s < tagSpace
+  pub hangs : {r leaf : ℕ} → Counts k r leaf → Hangs b s par r
 
 -- slot s was written as node i and marked, or it is none of the area, or marked, or not the node that is expected
 pub data Visited (rows : List ℕ) (t count S : ℕ) (b : List ℕ) (s par x : ℕ) (w : List ℕ) (i : ℕ) (w' : List ℕ) : Kids → Type 0 where
@@ -140,10 +161,11 @@ pub data Visited (rows : List ℕ) (t count S : ℕ) (b : List ℕ) (s par x : �
       → Put w i (nodeOf s (symbolIn b s) (productionIn b s) (tagIn b s)) v → w' ≡ set v (marksAt S + s) 1 → Visited rows t count S b s par x w i w' k
   over : S < s → Visited rows t count S b s par x w i w' Unfit
   marked : s ≤ S → (byteAt w (marksAt S + s) ≡ 0 → ⊥) → Visited rows t count S b s par x w i w' Unfit
-  unfit : (Suits b s par x → Kin rows t count x (productionIn b s) (tagIn b s) Unfit) → Visited rows t count S b s par x w i w' Unfit
+  unfit : (Looks b s x → Kin rows t count x (productionIn b s) (tagIn b s) Unfit) → Visited rows t count S b s par x w i w' Unfit
+  stray : {k : Kids} {r leaf : ℕ} → Kin rows t count x (productionIn b s) (tagIn b s) k → Counts k r leaf → (Hangs b s par r → ⊥) → Visited rows t count S b s par x w i w' Unfit
 
 module _ (rows : List ℕ) (t count S : ℕ) (b : List ℕ) (s par x : ℕ) (w : List ℕ) (i : ℕ) where
-  pub visited-unlike : (u : Bool) → Tells (Suits b s par x) u → u ≡ false → Visited rows t count S b s par x w i w Unfit
+  pub visited-unlike : (u : Bool) → Tells (Looks b s x) u → u ≡ false → Visited rows t count S b s par x w i w Unfit
   visited-unlike u h e = Visited.unfit (λ f. absurd (h .no e f))
 
   module _ (at : ℕ) (ea : at ≡ marksAt S) (l : s ≤ S) where
@@ -157,23 +179,39 @@ module _ (rows : List ℕ) (t count S : ℕ) (b : List ℕ) (s par x : ℕ) (w :
       pub visited-unfit : r ≡ Unfit → Visited rows t count S b s par x w i w Unfit
       visited-unfit e = Visited.unfit (λ f. rw (e, ep, eg) at k)
 
-      module _ (z : byteAt w (at + s) ≡ 0) (u : Bool) (h : Tells (Suits b s par x) u) (e : u ≡ true) (lg : g < tagSpace) (w1 w' : List ℕ) (ew : w' ≡ set w1 (at + s) 1) where
-        visited-met : {o : Kids} → r ≡ o → (o ≡ Unfit → ⊥) → Put w i (nodeOf s (v % 256) (v / 256) g) w1 → Visited rows t count S b s par x w i w' o
-        visited-met {o} er n put =
-            let meets : Meets rows t count b s par x o = record { suits = h .yes e; kin = rw (er, ep, eg) at k; tag = rw eg at lg } in
+      module _ (u : Bool) (w' : List ℕ) where
+        visited-stray : {o : Kids} {y leaf : ℕ} → r ≡ o → Counts o y leaf → Tells (Hangs b s par y) u → u ≡ false → Visited rows t count S b s par x w i w' Unfit
+        visited-stray er c h e = Visited.stray (rw (er, ep, eg) at k) c (h .no e)
+
+        pub stray-leaf : r ≡ Leaf → Tells (Hangs b s par 0) u → u ≡ false → Visited rows t count S b s par x w i w' Unfit
+        stray-leaf er h e = visited-stray er Counts.leaf h e
+
+        pub stray-body : (y : ℕ) → r ≡ Body y → Tells (Hangs b s par y) u → u ≡ false → Visited rows t count S b s par x w i w' Unfit
+        stray-body y er h e = visited-stray er Counts.body h e
+
+      module _ (z : byteAt w (at + s) ≡ 0) (u : Bool) (h : Tells (Looks b s x) u) (e : u ≡ true) (lg : g < tagSpace) (o : Bool) (eo : o ≡ true) (w1 w' : List ℕ) (ew : w' ≡ set w1 (at + s) 1) where
+        visited-met : {j : Kids} → r ≡ j → (j ≡ Unfit → ⊥) → ((y leaf : ℕ) → Counts j y leaf → Hangs b s par y) → Put w i (nodeOf s (v % 256) (v / 256) g) w1 → Visited rows t count S b s par x w i w' j
+        visited-met {j} er n hs put =
+            let meets : Meets rows t count b s par x j = record { looks = h .yes e; kin = rw (er, ep, eg) at k; tag = rw eg at lg; hangs = λ {r} {leaf = l} c. hs r l c } in
             Visited.met n l (rw ea at z) meets (rw (both-in b s v ev known .0, ep, eg) at put) (rw ea at ew)
 
-        pub visited-leaf : r ≡ Leaf → Put w i (nodeOf s (v % 256) 0 g) w1 → Visited rows t count S b s par x w i w' Leaf
-        visited-leaf er put = visited-met er (λ y. never (cc)) (rw (go k er) put)
+        pub visited-leaf : r ≡ Leaf → Tells (Hangs b s par 0) o → Put w i (nodeOf s (v % 256) 0 g) w1 → Visited rows t count S b s par x w i w' Leaf
+        visited-leaf er hg put = visited-met er (λ y. never (cc)) hs (rw (go k er) put)
           where
+            hs : (y leaf : ℕ) → Counts Leaf y leaf → Hangs b s par y
+            hs y l Counts.leaf = hg .yes eo
+
             go : {o : Kids} → Kin rows t count x (v / 256) g o → o ≡ Leaf → v / 256 ≡ 0
             go (Kin.leaf y q) er = y
             go (Kin.node y q a c d) er = never (cc)
             go (Kin.none y q) er = never (cc)
 
-        pub visited-body : (y : ℕ) → r ≡ Body y → Put w i (nodeOf s (v % 256) (v / 256) 0) w1 → Visited rows t count S b s par x w i w' (Body y)
-        visited-body y er put = visited-met er (λ y. never (cc)) (rw (go k er) put)
+        pub visited-body : (y : ℕ) → r ≡ Body y → Tells (Hangs b s par y) o → Put w i (nodeOf s (v % 256) (v / 256) 0) w1 → Visited rows t count S b s par x w i w' (Body y)
+        visited-body y er hg put = visited-met er (λ y. never (cc)) hs (rw (go k er) put)
           where
+            hs : (v leaf : ℕ) → Counts (Body y) v leaf → Hangs b s par v
+            hs v l Counts.body = hg .yes eo
+
             go : {o : Kids} → Kin rows t count x (v / 256) g o → o ≡ Body y → g ≡ 0
             go (Kin.leaf y q) er = never (cc)
             go (Kin.node y q a c d) er = c

@@ -2,6 +2,8 @@
 use Prim.Native.Nat.{ℕ, suc, _-_, _<_}
 use mathlib.Core.Path.{_≡_, refl, sym, _∙_}
 use mathlib.Core.List.{List, [], _∷_}
+use mathlib.Core.Logic.{by-cases}
+use native.Mathlib.Decide.{ℕ-discrete}
 use native.Mathlib.Omega.{arith}
 use Rattle.base.specs.Choose.{never}
 use Rattle.grammar.specs.Grammar.{Grammar, TerminalOf, Rule}
@@ -16,7 +18,7 @@ use Rattle.walks.specs.Slots.{symbolIn, productionIn, parentIn, firstIn,
 use Rattle.walks.specs.Frames.{Frame, frame, Stands, Walks}
 use Rattle.walks.specs.Going.{Stuck, blocked}
 use Rattle.walks.specs.Digits.{Digits, digits-none}
-use Rattle.walks.specs.Judging.{Suits, Kin, Counts, Meets}
+use Rattle.walks.specs.Judging.{Looks, Hangs, Kin, Counts, Meets}
 
 module _ (rows : List ℕ) (t n start count : ℕ) where
   abbrev pub G· : Grammar
@@ -65,7 +67,7 @@ module _ (rows : List ℕ) (t n start count : ℕ) where
       stuck-seen : (Seen S b s par x xs fs → ⊥) → Stuck G· S b (ahead ∷ fs)
       stuck-seen k = record { no = λ es h. k (seen refl l h) }
 
-      pub stuck-unfit : (Suits b s par x → Kin rows t count x (productionIn b s) (tagIn b s) Unfit) → Stuck G· S b (ahead ∷ fs)
+      pub stuck-unfit : (Looks b s x → Kin rows t count x (productionIn b s) (tagIn b s) Unfit) → Stuck G· S b (ahead ∷ fs)
       stuck-unfit k = stuck-seen go
         where
           none : Kin rows t count x (productionIn b s) (tagIn b s) Unfit → Seen S b s par x xs fs → ⊥
@@ -73,8 +75,8 @@ module _ (rows : List ℕ) (t n start count : ℕ) where
           none (Kin.none a c) (Seen.node {q = q} u i p z w y g h) = c q z w y g
 
           go : Seen S b s par x xs fs → ⊥
-          go (Seen.leaf u i p z w y h) = none (k (record { used = u; symbol = i; parent = p })) (Seen.leaf u i p z w y h)
-          go (Seen.node {q = q} u i p z w y g h) = none (k (record { used = u; symbol = i; parent = p })) (Seen.node {q = q} u i p z w y g h)
+          go (Seen.leaf u i p z w y h) = none (k (record { used = u; symbol = i })) (Seen.leaf u i p z w y h)
+          go (Seen.node {q = q} u i p z w y g h) = none (k (record { used = u; symbol = i })) (Seen.node {q = q} u i p z w y g h)
 
       pub stuck-behind : (nextIn b s ≡ 0 → ⊥) → xs ≡ [] → Stuck G· S b (ahead ∷ fs)
       stuck-behind m z = stuck-seen go
@@ -83,40 +85,49 @@ module _ (rows : List ℕ) (t n start count : ℕ) where
           go (Seen.leaf u i p o w y h) = blocked fs behind m z h (frame 0 s [] ∷ []) refl
           go (Seen.node {q = q} u i p o w y g h) = blocked fs behind m z h (frame (firstIn b s) s (bodyAt rows q) ∷ []) refl
 
-      pub stuck-below : {k : Kids} {r leaf : ℕ} → Meets rows t count b s par x k → Counts k r leaf → r ≡ 0 → (firstIn b s ≡ 0 → ⊥) → Stuck G· S b (ahead ∷ fs)
-      stuck-below h c z m = stuck-seen (go (h .kin) c z)
+      pub stuck-stray : {k : Kids} {r leaf : ℕ} → Kin rows t count x (productionIn b s) (tagIn b s) k → Counts k r leaf → (Hangs b s par r → ⊥) → Stuck G· S b (ahead ∷ fs)
+      stuck-stray h c m = stuck-seen (λ y. m (go h c y))
         where
-          go : {k : Kids} {v l : ℕ} → Kin rows t count x (productionIn b s) (tagIn b s) k → Counts k v l → v ≡ 0 → Seen S b s par x xs fs → ⊥
-          go k c z (Seen.leaf u i p o w y h) = m y
-          go (Kin.leaf z' w') Counts.leaf z (Seen.node {q = q} u i p o w y g h) = omega (arith, o, z')
-          go (Kin.node {q = q'} z' w' y' g' d) Counts.body z (Seen.node {q = q} u i p o w y g h) =
-              let a : q' ≡ q = omega (arith, o, z') in
-              let c : bodyAt rows q ≡ [] = rw a at (digits-none d z) in
-              blocked (behind ∷ fs) (frame (firstIn b s) s (bodyAt rows q)) m c h [] refl
+          go : {k : Kids} {v l : ℕ} → Kin rows t count x (productionIn b s) (tagIn b s) k → Counts k v l → Seen S b s par x xs fs → Hangs b s par v
+          go k c (Seen.leaf u i p o w y h) = record { parent = p; bare = λ _. y }
+          go (Kin.leaf z' w') Counts.leaf (Seen.node {q = q} u i p o w y g h) = absurd (omega (arith, o, z'))
+          go (Kin.node {q = q'} z' w' y' g' d) Counts.body (Seen.node {q = q} u i p o w y g h) =
+              record {
+                parent = p;
+                bare = λ z. let a : q' ≡ q = omega (arith, o, z') in
+                    let c : bodyAt rows q ≡ [] = rw a at (digits-none d z) in
+                    by-cases (ℕ-discrete (firstIn b s) 0) (λ e. e) (λ m. absurd (blocked (behind ∷ fs) (frame (firstIn b s) s (bodyAt rows q)) m c h [] refl));
+              }
 
     -- ---- the node that stands there
 
     -- a node without children
-    pub stands-bare : {k : Kids} {r leaf : ℕ} → Meets rows t count b s par x k → Counts k r leaf → r ≡ 0 → firstIn b s ≡ 0 → nextIn b s < 65536 → Stands G· b ahead written (frame 0 s []) behind
+    pub stands-bare : {k : Kids} {r leaf : ℕ} → Meets rows t count b s par x k → Counts k r leaf → r ≡ 0 → nextIn b s < 65536 → Stands G· b ahead written (frame 0 s []) behind
     unfolding grammarIn
-    stands-bare h k e o ln = go (h .kin) k e
+    stands-bare h k e ln = go (h .kin) k e
       where
-        f : Suits b s par x
-        f = h .suits
+        f : Looks b s x
+        f = h .looks
+
+        a : parentIn b s ≡ par
+        a = h .hangs k .parent
+
+        o : firstIn b s ≡ 0
+        o = h .hangs k .bare e
 
         go : {k : Kids} {v l : ℕ} → Kin rows t count x (productionIn b s) (tagIn b s) k → Counts k v l → v ≡ 0 → Stands G· b ahead written (frame 0 s []) behind
         go (Kin.leaf z y) Counts.leaf e =
-            let q : slotAt b s ≡ slotBytes x 0 par 0 (nextIn b s) (tagIn b s) = rw (f .symbol, z, f .parent, o) at (f .used .is) in
-            let a : leafNode s x (tagIn b s) ≡ written = let i = f .symbol in cc in
+            let q : slotAt b s ≡ slotBytes x 0 par 0 (nextIn b s) (tagIn b s) = rw (f .symbol, z, a, o) at (f .used .is) in
+            let j : leafNode s x (tagIn b s) ≡ written = let i = f .symbol in cc in
             let st : Stands G· b ahead (leafNode s x (tagIn b s)) (frame 0 s []) behind = Stands.leaf refl y q ln (h .tag) in
-            rw a at st
-        go (Kin.node {q = q} z y a g d) Counts.body e =
-            let u : slotAt b s ≡ slotBytes x (suc q) par 0 (nextIn b s) 0 = rw (f .symbol, z, f .parent, o, g) at (f .used .is) in
-            let c : innerNode s x (suc q) ≡ written = let i = f .symbol in cc in
-            let r : Rule G· (suc q) x (bodyAt rows q) = rw a at (rule-at rows t n start count q y) in
+            rw j at st
+        go (Kin.node {q = q} z y c g d) Counts.body e =
+            let u : slotAt b s ≡ slotBytes x (suc q) par 0 (nextIn b s) 0 = rw (f .symbol, z, a, o, g) at (f .used .is) in
+            let j : innerNode s x (suc q) ≡ written = let i = f .symbol in cc in
+            let r : Rule G· (suc q) x (bodyAt rows q) = rw c at (rule-at rows t n start count q y) in
             let r' : Rule G· (suc q) x [] = rw (digits-none d e) at r in
             let st : Stands G· b ahead (innerNode s x (suc q)) (frame 0 s []) behind = Stands.node refl r' u (omega arith) ln in
-            rw c at st
+            rw j at st
 
     -- a node with children, which have these symbols
     pub record Bears (r : ℕ) : Type 0 where
@@ -128,14 +139,17 @@ module _ (rows : List ℕ) (t n start count : ℕ) where
     unfolding grammarIn
     stands-bearing h k m lf ln = go (h .kin) k m
       where
-        f : Suits b s par x
-        f = h .suits
+        f : Looks b s x
+        f = h .looks
+
+        a : parentIn b s ≡ par
+        a = h .hangs k .parent
 
         go : {k : Kids} {v l : ℕ} → Kin rows t count x (productionIn b s) (tagIn b s) k → Counts k v l → (v ≡ 0 → ⊥) → Bears v
         go (Kin.leaf z y) Counts.leaf m = absurd (m refl)
-        go (Kin.node {q = q} z y a g d) Counts.body m =
-            let u : slotAt b s ≡ slotBytes x (suc q) par (firstIn b s) (nextIn b s) 0 = rw (f .symbol, z, f .parent, g) at (f .used .is) in
-            let c : innerNode s x (suc q) ≡ written = let i = f .symbol in cc in
-            let r : Rule G· (suc q) x (bodyAt rows q) = rw a at (rule-at rows t n start count q y) in
+        go (Kin.node {q = q} z y c g d) Counts.body m =
+            let u : slotAt b s ≡ slotBytes x (suc q) par (firstIn b s) (nextIn b s) 0 = rw (f .symbol, z, a, g) at (f .used .is) in
+            let j : innerNode s x (suc q) ≡ written = let i = f .symbol in cc in
+            let r : Rule G· (suc q) x (bodyAt rows q) = rw c at (rule-at rows t n start count q y) in
             let st : Stands G· b ahead (innerNode s x (suc q)) (frame (firstIn b s) s (bodyAt rows q)) behind = Stands.node refl r u lf ln in
-            record { symbols = bodyAt rows q; digits = d; stands = rw c at st }
+            record { symbols = bodyAt rows q; digits = d; stands = rw j at st }

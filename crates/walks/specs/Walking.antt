@@ -10,7 +10,7 @@ use Rattle.base.specs.Bytes.{byteAt, get16}
 use Rattle.base.specs.Blocks.{zeros}
 use Rattle.grammar.specs.Each.{Each, each-join, each-head}
 use Rattle.grammar.specs.Grammar.{Grammar}
-use Rattle.grammar.specs.Rows.{grammarIn}
+use Rattle.grammar.specs.Rows.{symbolSpace, grammarIn}
 use Rattle.trees.specs.Area.{slotSize, maxSlots, areaSize}
 use Rattle.trees.specs.Nodes.{Node}
 use Rattle.trees.specs.Coded.{nodeSize, nodesFrom, length-nodes}
@@ -28,7 +28,7 @@ use Rattle.walks.specs.Reading.{leafCount, leaves-append, leaves-few, ro
 use Rattle.walks.specs.Digits.{Digits, Split, digits-none, digits-split, digits-some}
 use Rattle.walks.specs.Judging.{Counts, kin-counts, Meets, Visited}
 use Rattle.walks.specs.Stacked.{placeOf, marksAt, workSize, restAt, Held, held-same, Framed, marksIn, length-marks, mark-at, marks-set, marks-same}
-use Rattle.walks.specs.Turning.{ahead, behind, written, Bears, stuck-unfit, stuck-behind, stuck-below, stands-bare, stands-bearing}
+use Rattle.walks.specs.Turning.{ahead, behind, written, Bears, stuck-unfit, stuck-behind, stuck-stray, stands-bare, stands-bearing}
 
 -- with this found of a node's children, their symbols are the digits of `body`, and there are so many leaves then
 pub record Taken (k : Kids) (leaves body leaves' : ℕ) : Type 0 where
@@ -84,16 +84,19 @@ module _ (rows : List ℕ) (t n start count S : ℕ) (b : List ℕ) where
     through : {i leaves : ℕ} → i ≤ S → Ended w i leaves → Wandered w (Through i leaves)
     astray : Lost gram S b origin → Wandered w Astray
 
-  pub walking-start : (w : List ℕ) (top root : ℕ) → root ≡ get16 b 2 → marksIn S w ≡ set (zeros (S + 1)) 0 1 → top ≡ nodeSize * S → Walking w top 0 0 root 0 start 0
+  pub walking-start : (w : List ℕ) (top root : ℕ) → root ≡ get16 b 2 → marksIn S w ≡ set (zeros (S + 1)) 0 1 → top ≡ nodeSize * S → start < symbolSpace
+      → Walking w top 0 0 root 0 ((64 + start) % 64) ((64 + start) / 128)
   unfolding grammarIn
-  walking-start w top root e z o =
+  walking-start w top root e z o ls =
+      let es : (64 + start) % 64 ≡ start = omega arith in
+      let er : (64 + start) / 128 ≡ 0 = omega arith in
       let y : Waits (rootFrame gram b) = record { some = λ y. never (cc) } in
       let g : Going gram S b origin [] (rootFrame gram b ∷ []) = going-start (rootFrame gram b) y in
       record {
         symbols = [];
         frames = [];
-        gone = record { going = rw e g; marked = marked-none (marksIn S w) (S + 1) z (omega arith); within = Each.nil; counted = refl };
-        digits = Digits.nil;
+        gone = record { going = rw (e, es) g; marked = marked-none (marksIn S w) (S + 1) z (omega arith); within = Each.nil; counted = refl };
+        digits = rw er Digits.nil;
         k = 0;
         held = Held.nil;
         place = omega arith;
@@ -115,6 +118,7 @@ module _ (rows : List ℕ) (t n start count S : ℕ) (b : List ℕ) where
   entered {w} {w'} {i} {s} li n (Visited.over y) = absurd (n refl)
   entered {w} {w'} {i} {s} li n (Visited.marked y z) = absurd (n refl)
   entered {w} {w'} {i} {s} li n (Visited.unfit y) = absurd (n refl)
+  entered {w} {w'} {i} {s} li n (Visited.stray y z o) = absurd (n refl)
   entered {w} {w'} {i} {s} li n (Visited.met {v = v} y l z h p e) =
       let o : (j : ℕ) → j < marksAt S → byteAt w' j ≡ byteAt v j = λ j m. ap (λ (u : List ℕ). byteAt u j) e ∙ getD-set-other v (marksAt S + s) j 1 0 (omega arith) in
       let q : marksIn S w' ≡ set (marksIn S v) s 1 = ap (marksIn S) e ∙ marks-set S v s 1 l in
@@ -143,6 +147,7 @@ module _ (rows : List ℕ) (t n start count S : ℕ) (b : List ℕ) where
           go (Visited.over z) e = lost-over (nodesFrom w i 0) (h .gone .going) z
           go (Visited.marked l z) e = lost-marked (nodesFrom w i 0) (h .gone .going) (marksIn S w) (h .gone .marked) (λ o. z (sym (mark-at S w s l) ∙ o))
           go (Visited.unfit z) e = lost-stuck (nodesFrom w i 0) (h .gone .going) (stuck-unfit rows t n start count S b s par x (h .symbols) (h .frames) (h .low) z)
+          go (Visited.stray z o u) e = lost-stuck (nodesFrom w i 0) (h .gone .going) (stuck-stray rows t n start count S b s par x (h .symbols) (h .frames) (h .low) z o u)
 
       module _ {body leaves' : ℕ} (tk : Taken r leaves body leaves') where
         en : Entered w i s par x r w1
@@ -155,10 +160,6 @@ module _ (rows : List ℕ) (t n start count S : ℕ) (b : List ℕ) where
         pub wandered-behind : (w' : List ℕ) (u : ℕ) → u ≡ nextIn b s → (u ≡ 0 → ⊥) → rest ≡ 0 → Wandered w' Astray
         wandered-behind w' u e z y =
             Wandered.astray (lost-stuck (nodesFrom w i 0) (h .gone .going) (stuck-behind rows t n start count S b s par x (h .symbols) (h .frames) (h .low) (λ o. z (e ∙ o)) (digits-none (h .digits) y)))
-
-        pub wandered-below : (w' : List ℕ) (u : ℕ) → u ≡ firstIn b s → (u ≡ 0 → ⊥) → body ≡ 0 → Wandered w' Astray
-        wandered-below w' u e z y =
-            Wandered.astray (lost-stuck (nodesFrom w i 0) (h .gone .going) (stuck-below rows t n start count S b s par x (h .symbols) (h .frames) (h .low) (en .meets) (tk .counts) y (λ o. z (e ∙ o))))
 
         -- ---- a turn
 
@@ -177,8 +178,7 @@ module _ (rows : List ℕ) (t n start count S : ℕ) (b : List ℕ) where
         walking-room =
             omega (arith, marked-room S (marksIn S w) (nodesFrom w i 0) s (h .gone .marked) (h .gone .within) some (en .free), length-slotsOf (nodesFrom w i 0), length-nodes w i 0)
 
-        module _ (lw : workSize S ≤ length w) (few : S ≤ maxSlots) (first next : ℕ) (ef : first ≡ firstIn b s) (ex : next ≡ nextIn b s)
-            (lf : first < 65536) (ln : next < 65536) where
+        module _ (lw : workSize S ≤ length w) (few : S ≤ maxSlots) (next : ℕ) (ex : next ≡ nextIn b s) (ln : next < 65536) where
           abbrev e : Node
           e = written rows t n start count S b s par x (h .symbols)
 
@@ -205,11 +205,11 @@ module _ (rows : List ℕ) (t n start count S : ℕ) (b : List ℕ) where
           kept : Held w1 S (h .k) (h .frames)
           kept = held-same w1 (λ y a c. en .others y (let q = walking-room in omega arith) (let q = h .few in let o = h .room in omega arith)) (h .held)
 
-          module _ (eb : body ≡ 0) (zf : first ≡ 0) where
+          module _ (eb : body ≡ 0) where
             -- the next of the siblings
             pub walking-next : (rest ≡ 0 → ⊥) → Walking w1 top (i + 1) leaves' next par (rest % 64) (rest / 128)
             walking-next nr =
-                let st = stands-bare rows t n start count S b s par x (h .symbols) (en .meets) (tk .counts) eb (sym ef ∙ zf) (rw ex at ln) in
+                let st = stands-bare rows t n start count S b s par x (h .symbols) (en .meets) (tk .counts) eb (rw ex at ln) in
                 let q = digits-split (h .digits) nr in
                 let wt : Waits g = record { some = λ y. never (let o = q .is in cc) } in
                 let y : Turn gram S b f (h .frames) e (g ∷ h .frames) =
@@ -231,7 +231,7 @@ module _ (rows : List ℕ) (t n start count S : ℕ) (b : List ℕ) where
 
             up : rest ≡ 0 → next ≡ 0 → Gone w1 (i + 1) leaves' (h .frames)
             up zr zn =
-                let st = stands-bare rows t n start count S b s par x (h .symbols) (en .meets) (tk .counts) eb (sym ef ∙ zf) (rw ex at ln) in
+                let st = stands-bare rows t n start count S b s par x (h .symbols) (en .meets) (tk .counts) eb (rw ex at ln) in
                 turned (record { within = some; below = frame 0 s []; behind = g; stands = st; gs = h .frames; later = Kept.left (sym ex ∙ zn) (digits-none (h .digits) zr); sooner = Kept.left refl refl })
 
             -- the last frame
@@ -266,7 +266,7 @@ module _ (rows : List ℕ) (t n start count S : ℕ) (b : List ℕ) where
                     Wandered.through m (record { going = y .going; marked = y .marked; counted = y .counted })
                 go pl (Held.cons a c d o) y = absurd (omega (arith, pl, zt))
 
-          module _ (nb : body ≡ 0 → ⊥) where
+          module _ (nb : body ≡ 0 → ⊥) (first : ℕ) (ef : first ≡ firstIn b s) (lf : first < 65536) where
             bears : Bears rows t n start count S b s par x (h .symbols) body
             bears = stands-bearing rows t n start count S b s par x (h .symbols) (en .meets) (tk .counts) nb (rw ef at lf) (rw ex at ln)
 

@@ -9,16 +9,16 @@ ghost use Prim.Native.Nat.{_+_, _*_, _<_, _≤_};
 ghost use lib.ListN.{length, set};
 ghost use Rattle.base.specs.Blocks.{zeros};
 ghost use Rattle.base.specs.Tells.{Tells};
-ghost use Rattle.grammar.specs.Rows.{leftAt, grammarIn};
+ghost use Rattle.grammar.specs.Rows.{symbolSpace, leftAt, grammarIn};
 ghost use Rattle.grammar.specs.RowRules.{bodyAt};
 ghost use Rattle.trees.specs.Area.{slotSize, maxSlots, areaSize};
 ghost use Rattle.walks.specs.Digits.{Digits};
 ghost use Rattle.walks.specs.Words.{wordCount, Worded};
 ghost use Rattle.walks.specs.Slots.{firstIn, nextIn};
-ghost use Rattle.walks.specs.Judging.{Suits, Kin, Visited};
+ghost use Rattle.walks.specs.Judging.{Looks, Hangs, Kin, Visited};
 ghost use Rattle.walks.specs.Stacked.{frameSize, marksAt, workSize, get64, Long, Framed, marksIn};
 ghost use Rattle.walks.specs.Walking.{Wandered};
-ghost use Rattle.walks.specs.Closing.{Heads, Clear, ClearTo, Run, Reads};
+ghost use Rattle.walks.specs.Closing.{visitedRun, Heads, Clear, ClearTo, VisitedFrom, Run, Reads};
 
 // A frame's slot and parent, two bytes each, and its symbols, eight.
 const FRAME_SIZE: usize = 12;
@@ -32,8 +32,15 @@ pub const WALK_SIZE: usize = trees::NODE_SIZE * trees::MAX_SLOTS
 // A used slot's mark as a two-byte number.
 const NODE_MARKS: usize = 0x444E;
 
-// The marks of four slots that were visited as a four-byte number.
+// The marks of four slots that were visited as a four-byte number, and of eight as an eight-byte number.
 const FOUR_MARKS: usize = 0x01010101;
+
+const EIGHT_MARKS: usize = 0x0101010101010101;
+
+// So many slots at once are seen to be visited, and so many to be zero.
+const VISITED_RUN: usize = 64;
+
+const FREE_RUN: usize = 16;
 
 // A word for each number that a slot's byte may name as its production.
 const WORDS: usize = 256;
@@ -90,10 +97,10 @@ fn fill_words(rows: &[u8], count: usize, words: &mut [usize])
     }
 }
 
-// Whether slot s has a used slot's mark and zeros, and the symbol x below the slot `par`.
-fn suits(area: &[u8], s: usize, par: usize, x: usize) -> bool
+// Whether slot s has a used slot's mark and zeros, and the symbol x.
+fn looks(area: &[u8], s: usize, x: usize) -> bool
     requires { ⌜ slotSize * s + slotSize ≤ length (now area) ⌝ }
-    ensures { λ r. ⌜ Tells (Suits (now (area .entry)) s par x) r ⌝ }
+    ensures { λ r. ⌜ Tells (Looks (now (area .entry)) s x) r ⌝ }
 {
     let at = trees::SLOT_SIZE * s;
     if base::two(area, at) != NODE_MARKS {
@@ -105,7 +112,23 @@ fn suits(area: &[u8], s: usize, par: usize, x: usize) -> bool
     if base::two(area, at + 2) % 256 != x {
         return false;
     }
-    if base::two(area, at + 4) != par {
+    true
+}
+
+// Whether slot s is below the slot `par`, and has no first child where its children's symbols are those of the body 0. Parent and first child are one four-byte
+// number, so that one look tells both.
+fn hangs(area: &[u8], s: usize, par: usize, body: usize) -> bool
+    requires { ⌜ (slotSize * s + slotSize ≤ length (now area)) × (par < 65536) ⌝ }
+    ensures { λ r. ⌜ Tells (Hangs (now (area .entry)) s par body) r ⌝ }
+{
+    let at = trees::SLOT_SIZE * s + 4;
+    if body == 0 {
+        if base::four(area, at) != par {
+            return false;
+        }
+        return true;
+    }
+    if base::two(area, at) != par {
         return false;
     }
     true
@@ -143,7 +166,7 @@ fn marks_at(slots: usize) -> usize
     trees::NODE_SIZE * slots + FRAME_SIZE * (slots + 1)
 }
 
-// Visits slot s, where x is expected below the slot `par`: writes it as node i and marks it.
+// Visits slot s, where x is expected below the slot `par`: writes it as node i and marks it. Its links are looked at last: what was written for a slot that is unfit is not read.
 fn visit(
     area: &[u8],
     slots: usize,
@@ -157,7 +180,7 @@ fn visit(
     w: &mut [u8],
     i: usize,
 ) -> Kids
-    requires { ⌜ (slots ≤ maxSlots) × (length (now area) ≡ areaSize slots) × (length (now words) ≡ wordCount) × Worded (now rows) count (now words) × (workSize slots ≤ length (now w)) × (i ≤ slots) ⌝ }
+    requires { ⌜ (slots ≤ maxSlots) × (length (now area) ≡ areaSize slots) × (length (now words) ≡ wordCount) × Worded (now rows) count (now words) × (workSize slots ≤ length (now w)) × (i ≤ slots) × (par < 65536) ⌝ }
     ensures { λ r. ⌜ Visited (now (rows .entry)) t count slots (now (area .entry)) s par x (now (w .entry)) i (now (w .exit)) r ⌝ }
 {
     if slots < s {
@@ -167,7 +190,7 @@ fn visit(
     if w[mark] != 0 {
         return Kids::Unfit;
     }
-    if suits(area, s, par, x) {
+    if looks(area, s, x) {
         let at = trees::SLOT_SIZE * s;
         let both = base::two(area, at + 2);
         let y = both % 256;
@@ -177,12 +200,18 @@ fn visit(
             Kids::Leaf => {
                 trees::put_node(w, i, s, y, 0, g);
                 w[mark] = 1;
-                return Kids::Leaf;
+                if hangs(area, s, par, 0) {
+                    return Kids::Leaf;
+                }
+                return Kids::Unfit;
             }
             Kids::Body(body) => {
                 trees::put_node(w, i, s, y, p, 0);
                 w[mark] = 1;
-                return Kids::Body(body);
+                if hangs(area, s, par, body) {
+                    return Kids::Body(body);
+                }
+                return Kids::Unfit;
             }
             Kids::Unfit => return Kids::Unfit,
         }
@@ -242,7 +271,7 @@ fn fresh(w: &mut [u8], slots: usize)
     w[from] = 1;
 }
 
-// Walks the area from its root, and writes the nodes that it visits.
+// Walks the area from its root, and writes the nodes that it visits. The symbols that are due at slot s and at its siblings behind it are one number.
 fn wander(
     area: &[u8],
     slots: usize,
@@ -254,7 +283,7 @@ fn wander(
     count: usize,
     w: &mut [u8],
 ) -> Course
-    requires { ⌜ (slots ≤ maxSlots) × (length (now area) ≡ areaSize slots) × (length (now words) ≡ wordCount) × Worded (now rows) count (now words) × (workSize slots ≤ length (now w)) ⌝ }
+    requires { ⌜ (slots ≤ maxSlots) × (length (now area) ≡ areaSize slots) × (length (now words) ≡ wordCount) × Worded (now rows) count (now words) × (workSize slots ≤ length (now w)) × (start < symbolSpace) ⌝ }
     ensures { λ r. ⌜ Wandered (now (rows .entry)) t n start count slots (now (area .entry)) (now (w .exit)) r ⌝ }
 {
     fresh(w, slots);
@@ -264,10 +293,21 @@ fn wander(
     let mut leaves: usize = 0;
     let mut s = base::two(area, 2);
     let mut par: usize = 0;
-    let mut x = start;
-    let mut rest: usize = 0;
+    let mut due = DIGIT + start;
     loop {
-        let body = match visit(area, slots, rows, words, t, count, s, par, x, w, i) {
+        let body = match visit(
+            area,
+            slots,
+            rows,
+            words,
+            t,
+            count,
+            s,
+            par,
+            due % DIGIT,
+            w,
+            i,
+        ) {
             Kids::Leaf => {
                 leaves += 1;
                 0
@@ -276,11 +316,9 @@ fn wander(
             Kids::Unfit => return Course::Astray,
         };
         i += 1;
+        due = due / BASE;
         if body == 0 {
-            if first_in(area, s) != 0 {
-                return Course::Astray;
-            }
-            if rest == 0 {
+            if due == 0 {
                 if next_in(area, s) != 0 {
                     return Course::Astray;
                 }
@@ -290,32 +328,26 @@ fn wander(
                 top -= FRAME_SIZE;
                 s = base::two(w, top);
                 par = base::two(w, top + 2);
-                rest = eight(w, top + 4);
-                x = rest % DIGIT;
-                rest = rest / BASE;
+                due = eight(w, top + 4);
                 continue;
             }
             s = next_in(area, s);
-            x = rest % DIGIT;
-            rest = rest / BASE;
             continue;
         }
-        if rest == 0 {
+        if due == 0 {
             if next_in(area, s) != 0 {
                 return Course::Astray;
             }
             par = s;
             s = first_in(area, s);
-            x = body % DIGIT;
-            rest = body / BASE;
+            due = body;
             continue;
         }
-        put_frame(w, top, next_in(area, s), par, rest);
+        put_frame(w, top, next_in(area, s), par, due);
         top += FRAME_SIZE;
         par = s;
         s = first_in(area, s);
-        x = body % DIGIT;
-        rest = body / BASE;
+        due = body;
     }
 }
 
@@ -330,7 +362,7 @@ fn walk(
     count: usize,
     w: &mut [u8],
 ) -> Course
-    requires { ⌜ (slots ≤ maxSlots) × (length (now area) ≡ areaSize slots) × (workSize slots ≤ length (now w)) ⌝ }
+    requires { ⌜ (slots ≤ maxSlots) × (length (now area) ≡ areaSize slots) × (workSize slots ≤ length (now w)) × (start < symbolSpace) ⌝ }
     ensures { λ r. ⌜ Wandered (now (rows .entry)) t n start count slots (now (area .entry)) (now (w .exit)) r ⌝ }
 {
     let mut words = [0usize; WORDS];
@@ -370,32 +402,43 @@ fn clear(area: &[u8], marks: &[u8], s: usize) -> bool
     base::all_zero(&area[at..at + trees::SLOT_SIZE])
 }
 
-// How many slots from s on are seen at once to be clear: the first four, eight, twelve or sixteen that were visited, or sixteen that are zero.
+// Whether the next slots from s on were visited.
+fn all_visited(marks: &[u8], s: usize) -> bool
+    requires { ⌜ s + visitedRun ≤ length (now marks) ⌝ }
+    ensures { λ r. ⌜ Tells (VisitedFrom (now (marks .entry)) s visitedRun) r ⌝ }
+{
+    let mut k: usize = 0;
+    while k < VISITED_RUN {
+        if eight(marks, s + k) != EIGHT_MARKS {
+            return false;
+        }
+        k += 8;
+    }
+    true
+}
+
+// How many slots from s on are seen at once to be clear: a run that was visited, four that were visited, or a run that is zero.
 fn run_of(area: &[u8], marks: &[u8], s: usize, slots: usize) -> usize
     requires { ⌜ (slots ≤ maxSlots) × (length (now area) ≡ areaSize slots) × (slots < length (now marks)) × (s ≤ slots) ⌝ }
     ensures { λ r. ⌜ Run (now (area .entry)) (now (marks .entry)) s slots r ⌝ }
 {
-    if slots < s + 15 {
+    if slots + 1 < s + FREE_RUN {
         return 0;
+    }
+    if s + VISITED_RUN <= slots + 1 {
+        if all_visited(marks, s) {
+            return VISITED_RUN;
+        }
     }
     let first = base::four(marks, s);
     if first == FOUR_MARKS {
-        if base::four(marks, s + 4) != FOUR_MARKS {
-            return 4;
-        }
-        if base::four(marks, s + 8) != FOUR_MARKS {
-            return 8;
-        }
-        if base::four(marks, s + 12) != FOUR_MARKS {
-            return 12;
-        }
-        return 16;
+        return 4;
     }
     let others = base::four(marks, s + 4) + base::four(marks, s + 8) + base::four(marks, s + 12);
     if first + others == 0 {
         let at = trees::SLOT_SIZE * s;
-        if base::all_zero(&area[at..at + 16 * trees::SLOT_SIZE]) {
-            return 16;
+        if base::all_zero(&area[at..at + FREE_RUN * trees::SLOT_SIZE]) {
+            return FREE_RUN;
         }
     }
     0
@@ -433,7 +476,7 @@ pub fn read_tree(
     count: usize,
     work: &mut [u8],
 ) -> Walked
-    requires { ⌜ (1 ≤ slots) × (slots ≤ maxSlots) × (length (now area) ≡ areaSize slots) × (workSize slots ≤ length (now work)) ⌝ }
+    requires { ⌜ (1 ≤ slots) × (slots ≤ maxSlots) × (length (now area) ≡ areaSize slots) × (workSize slots ≤ length (now work)) × (start < symbolSpace) ⌝ }
     ensures { λ r. ⌜ Reads (grammarIn (now (rows .entry)) t n start count) slots (now (area .entry)) (now (work .exit)) r ⌝ }
 {
     let Course::Through(nodes, leaves) = walk(area, slots, rows, t, n, start, count, work) else {

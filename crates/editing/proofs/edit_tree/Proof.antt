@@ -1,3 +1,4 @@
+use Rattle.grammar.specs.Rows.{start-small}
 use borrow.Author.Needs.{needs}
 use Rattle.editing.proofs.edit_tree.Statement.{statement}
 use Rattle.editing.proofs.edit_tree.Tie as tie
@@ -7,7 +8,7 @@ mul-need : tie.Need-mul-need
 mul-need c = search needs
 
 is-tree-requires : tie.Need-is-tree-requires
-is-tree-requires c κs = search needs
+is-tree-requires c κs = (c .before .before .before .before .before .before .before .pre .2, c .before .before .before .before .before .before .before .pre .3, c .before .before .before .before .before .before .before .pre .4, start-small _ _ _ _ _ (c .before .before .before .before .before .before .before .pre .0 .formed))
 
 same-length : tie.Need-same-length
 same-length c = search needs

@@ -1,3 +1,4 @@
+use Rattle.grammar.specs.Rows.{start-small}
 use borrow.Author.Needs.{needs}
 use Rattle.editing.proofs.edit_walked.Statement.{statement}
 use Rattle.editing.proofs.edit_walked.Tie as tie
@@ -5,7 +6,7 @@ use Rattle.altering.specs.Treed.{treed, untreed}
 use Rattle.editing.specs.Editing.{edits-room, edits-none}
 
 read-tree-requires : tie.Need-read-tree-requires
-read-tree-requires c κs = search needs
+read-tree-requires c κs = (c .before .before .before .before .before .before .before .pre .2, c .before .before .before .before .before .before .before .pre .3, c .before .before .before .before .before .before .before .pre .4, search needs, start-small _ _ _ _ _ (c .before .before .before .before .before .before .before .pre .0 .formed))
 
 enum-known-o : tie.Need-enum-known-o
 enum-known-o c = search needs

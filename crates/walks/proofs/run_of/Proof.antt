@@ -1,4 +1,4 @@
-use Rattle.walks.specs.Closing.{run-none, run-4, run-8, run-12, run-16, run-zero}
+use Rattle.walks.specs.Closing.{run-none, run-visited, run-four, run-zero}
 use borrow.Author.Needs.{needs}
 use Rattle.walks.proofs.run_of.Statement.{statement}
 use Rattle.walks.proofs.run_of.Tie as tie
@@ -6,11 +6,29 @@ use Rattle.walks.proofs.run_of.Tie as tie
 add-if1 : tie.Need-add-if1
 add-if1 c = search needs
 
+add-if1-2 : tie.Need-add-if1-2
+add-if1-2 c = search needs
+
 returns : tie.Need-returns
 returns c = run-none _ _ _ _ (c .before .before .before .pre .3)
 
+add-if2 : tie.Need-add-if2
+add-if2 c = search needs
+
+add-if2-2 : tie.Need-add-if2-2
+add-if2-2 c = search needs
+
+all-visited-requires : tie.Need-all-visited-requires
+all-visited-requires c κs = search needs
+
+returns-2 : tie.Need-returns-2
+returns-2 c = run-visited _ _ _ _ _ (search needs) (c .before .all-visited .ensures .yes (search needs))
+
 four-requires : tie.Need-four-requires
 four-requires c κs = search needs
+
+returns-3 : tie.Need-returns-3
+returns-3 c = run-four _ _ _ _ _ (record { small = λ i. c .before .before .before .before .shared-slice-known2 .given i .fits }) (search needs) (c .before .four .ensures .0) (c .if4 .taken)
 
 add-four : tie.Need-add-four
 add-four c = search needs
@@ -18,17 +36,14 @@ add-four c = search needs
 four-requires-2 : tie.Need-four-requires-2
 four-requires-2 c κs = search needs
 
-returns-2 : tie.Need-returns-2
-returns-2 c = run-4 _ _ _ _ (record { small = λ i. c .before .before .before .before .before .shared-slice-known2 .given i .fits }) (search needs) _ (c .before .before .before .four .ensures .0) (c .before .before .if2 .taken)
-
 add-four-2 : tie.Need-add-four-2
 add-four-2 c = search needs
 
 four-requires-3 : tie.Need-four-requires-3
 four-requires-3 c κs = search needs
 
-returns-3 : tie.Need-returns-3
-returns-3 c = run-8 _ _ _ _ (record { small = λ i. c .before .before .before .before .before .before .before .shared-slice-known2 .given i .fits }) (c .before .before .before .before .before .before .if1 .left) _ (c .before .before .before .before .before .four .ensures .0) (c .before .before .before .before .if2 .taken) _ (c .before .before .before .four2 .ensures .0) (c .before .before .if3 .left)
+add-others : tie.Need-add-others
+add-others c = search needs
 
 add-four-3 : tie.Need-add-four-3
 add-four-3 c = search needs
@@ -36,38 +51,11 @@ add-four-3 c = search needs
 four-requires-4 : tie.Need-four-requires-4
 four-requires-4 c κs = search needs
 
-returns-4 : tie.Need-returns-4
-returns-4 c = run-12 _ _ _ _ (record { small = λ i. c .before .before .before .before .before .before .before .before .before .shared-slice-known2 .given i .fits }) (c .before .before .before .before .before .before .before .before .if1 .left) _ (c .before .before .before .before .before .before .before .four .ensures .0) (c .before .before .before .before .before .before .if2 .taken) _ (c .before .before .before .before .before .four2 .ensures .0) (c .before .before .before .before .if3 .left) _ (c .before .before .before .four3 .ensures .0) (c .before .before .if4 .left)
-
-returns-5 : tie.Need-returns-5
-returns-5 c = run-16 _ _ _ _ (record { small = λ i. c .before .before .before .before .before .before .before .before .before .shared-slice-known2 .given i .fits }) (c .before .before .before .before .before .before .before .before .if1 .left) _ (c .before .before .before .before .before .before .before .four .ensures .0) (c .before .before .before .before .before .before .if2 .taken) _ (c .before .before .before .before .before .four2 .ensures .0) (c .before .before .before .before .if3 .left) _ (c .before .before .before .four3 .ensures .0) (c .before .before .if4 .left) _ (c .before .four4 .ensures .0) (c .if5 .left)
-
-add-four-4 : tie.Need-add-four-4
-add-four-4 c = search needs
-
-four-requires-5 : tie.Need-four-requires-5
-four-requires-5 c κs = search needs
-
-add-four-5 : tie.Need-add-four-5
-add-four-5 c = search needs
-
-four-requires-6 : tie.Need-four-requires-6
-four-requires-6 c κs = search needs
-
-add-others : tie.Need-add-others
-add-others c = search needs
-
-add-four-6 : tie.Need-add-four-6
-add-four-6 c = search needs
-
-four-requires-7 : tie.Need-four-requires-7
-four-requires-7 c κs = search needs
-
 add-others-2 : tie.Need-add-others-2
 add-others-2 c = search needs
 
-add-if6 : tie.Need-add-if6
-add-if6 c = search needs
+add-if5 : tie.Need-add-if5
+add-if5 c = search needs
 
 mul-at : tie.Need-mul-at
 mul-at c = search needs
@@ -90,41 +78,37 @@ part-all-zero-end c = search needs
 all-zero-requires : tie.Need-all-zero-requires
 all-zero-requires c κs = search needs
 
+returns-4 : tie.Need-returns-4
+returns-4 c = run-zero _ _ _ _ (search needs) (c .before .all-zero .ensures .yes (search needs)) (search needs)
+
+returns-5 : tie.Need-returns-5
+returns-5 c = run-none _ _ _ _ (c .before .before .before .before .before .before .before .before .before .before .before .before .before .pre .3)
+
 returns-6 : tie.Need-returns-6
-returns-6 c = run-zero _ _ _ _ (c .before .before .before .before .before .before .before .before .before .if1 .left) (c .before .all-zero .ensures .yes (search needs)) (search needs)
-
-returns-7 : tie.Need-returns-7
-returns-7 c = run-none _ _ _ _ (c .before .before .before .before .before .before .before .before .before .before .before .before .pre .3)
-
-returns-8 : tie.Need-returns-8
-returns-8 c = run-none _ _ _ _ (c .before .before .before .before .before .before .before .before .before .pre .3)
+returns-6 c = run-none _ _ _ _ (c .before .before .before .before .before .before .before .before .before .before .pre .3)
 
 pub run-of-spec : {M : Type 1} → statement M
 run-of-spec =
     tie.close
     (tie.spec
     add-if1
+    add-if1-2
     returns
+    add-if2
+    add-if2-2
+    all-visited-requires
+    returns-2
     four-requires
+    returns-3
     add-four
     four-requires-2
-    returns-2
     add-four-2
     four-requires-3
-    returns-3
+    add-others
     add-four-3
     four-requires-4
-    returns-4
-    returns-5
-    add-four-4
-    four-requires-5
-    add-four-5
-    four-requires-6
-    add-others
-    add-four-6
-    four-requires-7
     add-others-2
-    add-if6
+    add-if5
     mul-at
     mul-all-zero
     add-all-zero
@@ -132,6 +116,6 @@ run-of-spec =
     part-all-zero-start
     part-all-zero-end
     all-zero-requires
-    returns-6
-    returns-7
-    returns-8)
+    returns-4
+    returns-5
+    returns-6)

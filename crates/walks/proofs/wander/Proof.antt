@@ -1,19 +1,19 @@
-use Rattle.walks.specs.Walking.{Walking, Taken, taken-leaf, taken-body, walking-start, walking-leaves, walking-fits, walking-room, walking-next, walking-up, walking-end, walking-down, walking-push, wandered-unfit, wandered-below, wandered-behind}
-use Rattle.walks.specs.Stacked.{workSize}
-use lib.ListN.{length}
 use mathlib.Core.Path.{_≡_, refl}
 use mathlib.Core.Logic.{⊎-elim}
-use Prim.Native.Nat.{_-_, _≤_}
+use Prim.Native.Nat.{_-_, _≤_, _%_, _/_}
+use lib.ListN.{length}
+use Rattle.walks.specs.Stacked.{workSize}
+use Rattle.walks.specs.Walking.{Walking, Taken, taken-leaf, taken-body, walking-start, walking-leaves, walking-fits, walking-room, walking-next, walking-up, walking-end, walking-down, walking-push, wandered-unfit, wandered-behind}
 use borrow.Author.Needs.{needs}
 use native.Mathlib.Omega.{arith}
 use Rattle.walks.proofs.wander.Statement.{statement}
 use Rattle.walks.proofs.wander.Tie as tie
 
 abbrev Inv-loop : tie.InvT-loop
-Inv-loop area slots rows words t n start count w₀ bottom top₀ i₀ leaves₀ s₀ par₀ x₀ rest₀ w top i leaves s par x rest = (workSize slots ≤ length w) × (length w ≡ length w₀) × Walking rows t n start count slots area w top i leaves s par x rest
+Inv-loop area slots rows words t n start count w₀ bottom top₀ i₀ leaves₀ s₀ par₀ due₀ w top i leaves s par due = (workSize slots ≤ length w) × (length w ≡ length w₀) × Walking rows t n start count slots area w top i leaves s par (due % 64) (due / 128)
 
 abbrev μ-loop : tie.MeasureT-loop
-μ-loop area slots rows words t n start count w₀ bottom top₀ i₀ leaves₀ s₀ par₀ x₀ rest₀ w top i leaves s par x rest = slots - i
+μ-loop area slots rows words t n start count w₀ bottom top₀ i₀ leaves₀ s₀ par₀ due₀ w top i leaves s par due = slots - i
 
 -- what the arms of the match leave behind them
 taken : (c : tie.At-match-came Inv-loop μ-loop) → Taken (c .before .before .before .visit .result) (c .before .before .before .before .before .loop .leaves) (c .match .body) (c .match .leaves)
@@ -28,11 +28,14 @@ mul-bottom c = search needs
 two-requires : tie.Need-two-requires Inv-loop μ-loop
 two-requires c κs = search needs
 
+add-due : tie.Need-add-due Inv-loop μ-loop
+add-due c = search needs
+
 loop-holds : tie.Need-loop-holds Inv-loop μ-loop
-loop-holds c = (search needs, search needs, walking-start _ _ _ _ _ _ _ _ _ _ (c .two .ensures .0) (c .before .before .before .fresh .ensures) refl)
+loop-holds c = (search needs, search needs, walking-start _ _ _ _ _ _ _ _ _ _ (c .two .ensures .0) (c .before .before .before .fresh .ensures) refl (c .before .before .before .before .before .before .before .before .before .pre .5))
 
 visit-requires : tie.Need-visit-requires Inv-loop μ-loop
-visit-requires c κs = (c .before .before .before .before .before .before .before .before .before .before .before .pre .0, c .before .before .before .before .before .before .before .before .before .before .before .pre .1, c .before .before .before .before .before .before .before .before .before .before .before .pre .2, c .before .before .before .before .before .before .before .before .before .before .before .pre .3, c .before .loop .inv .0, c .before .loop .inv .2 .room)
+visit-requires c κs = (c .before .before .before .before .before .before .before .before .before .before .before .pre .0, c .before .before .before .before .before .before .before .before .before .before .before .pre .1, c .before .before .before .before .before .before .before .before .before .before .before .pre .2, c .before .before .before .before .before .before .before .before .before .before .before .pre .3, c .before .loop .inv .0, c .before .loop .inv .2 .room, c .before .loop .inv .2 .low)
 
 enum-told : tie.Need-enum-told Inv-loop μ-loop
 enum-told c = search needs
@@ -55,80 +58,71 @@ returns c = wandered-unfit _ _ _ _ _ _ _ (c .before .before .before .before .bef
 add-i : tie.Need-add-i Inv-loop μ-loop
 add-i c = omega (arith, c .before .before .before .before .before .loop .inv .2 .room, c .before .before .before .before .before .before .before .before .before .before .before .before .before .before .before .pre .0)
 
-first-in-requires : tie.Need-first-in-requires Inv-loop μ-loop
-first-in-requires c κs = walking-fits _ _ _ _ _ _ _ (c .before .before .before .before .before .before .loop .inv .2) (c .before .before .before .before .visit .ensures) (taken (c .before)) (c .before .before .before .before .before .before .before .before .before .before .before .before .before .before .before .before .pre .1)
+next-in-requires : tie.Need-next-in-requires Inv-loop μ-loop
+next-in-requires c κs = walking-fits _ _ _ _ _ _ _ (c .before .before .before .before .before .before .before .loop .inv .2) (c .before .before .before .before .before .visit .ensures) (taken (c .before .before)) (c .before .before .before .before .before .before .before .before .before .before .before .before .before .before .before .before .before .pre .1)
 
 same-length-2 : tie.Need-same-length-2 Inv-loop μ-loop
 same-length-2 c = search needs
 
 returns-2 : tie.Need-returns-2 Inv-loop μ-loop
-returns-2 c = wandered-below _ _ _ _ _ _ _ (c .before .before .before .before .before .before .before .before .loop .inv .2) (c .before .before .before .before .before .before .visit .ensures) (taken (c .before .before .before)) _ _ (c .before .first-in .ensures .0) (c .if2 .taken) (c .before .before .if1 .taken)
-
-next-in-requires : tie.Need-next-in-requires Inv-loop μ-loop
-next-in-requires c κs = walking-fits _ _ _ _ _ _ _ (c .before .before .before .before .before .before .before .before .before .loop .inv .2) (c .before .before .before .before .before .before .before .visit .ensures) (taken (c .before .before .before .before)) (c .before .before .before .before .before .before .before .before .before .before .before .before .before .before .before .before .before .before .before .pre .1)
+returns-2 c = wandered-behind _ _ _ _ _ _ _ (c .before .before .before .before .before .before .before .before .before .loop .inv .2) (c .before .before .before .before .before .before .before .visit .ensures) (taken (c .before .before .before .before)) _ _ (c .before .next-in .ensures .0) (c .if3 .taken) (c .before .before .if2 .taken)
 
 same-length-3 : tie.Need-same-length-3 Inv-loop μ-loop
 same-length-3 c = search needs
 
 returns-3 : tie.Need-returns-3 Inv-loop μ-loop
-returns-3 c = wandered-behind _ _ _ _ _ _ _ (c .before .before .before .before .before .before .before .before .before .before .before .loop .inv .2) (c .before .before .before .before .before .before .before .before .before .visit .ensures) (taken (c .before .before .before .before .before .before)) _ _ (c .before .next-in .ensures .0) (c .if4 .taken) (c .before .before .if3 .taken)
-
-same-length-4 : tie.Need-same-length-4 Inv-loop μ-loop
-same-length-4 c = search needs
-
-returns-4 : tie.Need-returns-4 Inv-loop μ-loop
-returns-4 c = walking-end _ _ _ _ _ _ _ (c .before .before .before .before .before .before .before .before .before .before .before .before .loop .inv .2) (c .before .before .before .before .before .before .before .before .before .before .visit .ensures) (taken (c .before .before .before .before .before .before .before)) (c .before .before .before .before .before .before .before .before .before .before .before .before .loop .inv .0) (c .before .before .before .before .before .before .before .before .before .before .before .before .before .before .before .before .before .before .before .before .before .before .pre .0) _ _ (c .before .before .before .before .before .first-in .ensures .0) (c .before .before .next-in .ensures .0) (c .before .before .before .before .before .first-in .ensures .1) (c .before .before .next-in .ensures .1) (c .before .before .before .before .before .before .if1 .taken) (c .before .before .before .before .if2 .left) (c .before .before .before .if3 .taken) (c .before .if4 .left) (c .if5 .taken)
+returns-3 c = walking-end _ _ _ _ _ _ _ (c .before .before .before .before .before .before .before .before .before .before .loop .inv .2) (c .before .before .before .before .before .before .before .before .visit .ensures) (taken (c .before .before .before .before .before)) (c .before .before .before .before .before .before .before .before .before .before .loop .inv .0) (c .before .before .before .before .before .before .before .before .before .before .before .before .before .before .before .before .before .before .before .before .pre .0) _ (c .before .before .next-in .ensures .0) (c .before .before .next-in .ensures .1) (c .before .before .before .before .if1 .taken) (c .before .before .before .if2 .taken) (c .before .if3 .left) (c .if4 .taken)
 
 sub-top : tie.Need-sub-top Inv-loop μ-loop
-sub-top c = omega (arith, c .before .before .before .before .before .before .before .before .before .before .before .before .loop .inv .2 .place, c .if5 .left)
+sub-top c = omega (arith, c .before .before .before .before .before .before .before .before .before .before .loop .inv .2 .place, c .if4 .left)
 
 two-requires-2 : tie.Need-two-requires-2 Inv-loop μ-loop
 two-requires-2 c κs = search needs
 
 add-two : tie.Need-add-two Inv-loop μ-loop
-add-two c = omega (arith, c .before .before .before .before .before .before .before .before .before .before .before .before .before .before .before .loop .inv .2 .place, c .before .before .before .before .before .before .before .before .before .before .before .before .before .before .before .loop .inv .2 .few, c .before .before .before .before .before .before .before .before .before .before .before .before .before .before .before .loop .inv .2 .room, c .before .before .before .before .before .before .before .before .before .before .before .before .before .before .before .before .before .before .before .before .before .before .before .before .before .pre .0)
+add-two c = omega (arith, c .before .before .before .before .before .before .before .before .before .before .before .before .before .loop .inv .2 .place, c .before .before .before .before .before .before .before .before .before .before .before .before .before .loop .inv .2 .few, c .before .before .before .before .before .before .before .before .before .before .before .before .before .loop .inv .2 .room, c .before .before .before .before .before .before .before .before .before .before .before .before .before .before .before .before .before .before .before .before .before .before .before .pre .0)
 
 two-requires-3 : tie.Need-two-requires-3 Inv-loop μ-loop
 two-requires-3 c κs = search needs
 
 add-eight : tie.Need-add-eight Inv-loop μ-loop
-add-eight c = omega (arith, c .before .before .before .before .before .before .before .before .before .before .before .before .before .before .before .before .before .loop .inv .2 .place, c .before .before .before .before .before .before .before .before .before .before .before .before .before .before .before .before .before .loop .inv .2 .few, c .before .before .before .before .before .before .before .before .before .before .before .before .before .before .before .before .before .loop .inv .2 .room, c .before .before .before .before .before .before .before .before .before .before .before .before .before .before .before .before .before .before .before .before .before .before .before .before .before .before .before .pre .0)
+add-eight c = omega (arith, c .before .before .before .before .before .before .before .before .before .before .before .before .before .before .before .loop .inv .2 .place, c .before .before .before .before .before .before .before .before .before .before .before .before .before .before .before .loop .inv .2 .few, c .before .before .before .before .before .before .before .before .before .before .before .before .before .before .before .loop .inv .2 .room, c .before .before .before .before .before .before .before .before .before .before .before .before .before .before .before .before .before .before .before .before .before .before .before .before .before .pre .0)
 
 eight-requires : tie.Need-eight-requires Inv-loop μ-loop
 eight-requires c κs = search needs
 
 loop-less : tie.Need-loop-less Inv-loop μ-loop
-loop-less c = omega (arith, walking-room _ _ _ _ _ _ _ (c .before .before .before .before .before .before .before .before .before .before .before .before .before .before .before .before .before .before .loop .inv .2) (c .before .before .before .before .before .before .before .before .before .before .before .before .before .before .before .before .visit .ensures) (taken (c .before .before .before .before .before .before .before .before .before .before .before .before .before)))
+loop-less c = omega (arith, walking-room _ _ _ _ _ _ _ (c .before .before .before .before .before .before .before .before .before .before .before .before .before .before .before .before .loop .inv .2) (c .before .before .before .before .before .before .before .before .before .before .before .before .before .before .visit .ensures) (taken (c .before .before .before .before .before .before .before .before .before .before .before)))
 
 loop-again : tie.Need-loop-again Inv-loop μ-loop
-loop-again c = (search needs, search needs, walking-up _ _ _ _ _ _ _ (c .before .before .before .before .before .before .before .before .before .before .before .before .before .before .before .before .before .before .loop .inv .2) (c .before .before .before .before .before .before .before .before .before .before .before .before .before .before .before .before .visit .ensures) (taken (c .before .before .before .before .before .before .before .before .before .before .before .before .before)) (c .before .before .before .before .before .before .before .before .before .before .before .before .before .before .before .before .before .before .loop .inv .0) (c .before .before .before .before .before .before .before .before .before .before .before .before .before .before .before .before .before .before .before .before .before .before .before .before .before .before .before .before .pre .0) _ _ (c .before .before .before .before .before .before .before .before .before .before .before .first-in .ensures .0) (c .before .before .before .before .before .before .before .before .next-in .ensures .0) (c .before .before .before .before .before .before .before .before .before .before .before .first-in .ensures .1) (c .before .before .before .before .before .before .before .before .next-in .ensures .1) (c .before .before .before .before .before .before .before .before .before .before .before .before .if1 .taken) (c .before .before .before .before .before .before .before .before .before .before .if2 .left) (c .before .before .before .before .before .before .before .before .before .if3 .taken) (c .before .before .before .before .before .before .before .if4 .left) (c .before .before .before .before .before .before .if5 .left) _ _ _ (c .before .before .before .before .two2 .ensures .0) (c .before .before .two3 .ensures .0) (c .before .before .two3 .ensures .1) (c .eight .ensures))
+loop-again c = (search needs, search needs, walking-up _ _ _ _ _ _ _ (c .before .before .before .before .before .before .before .before .before .before .before .before .before .before .before .before .loop .inv .2) (c .before .before .before .before .before .before .before .before .before .before .before .before .before .before .visit .ensures) (taken (c .before .before .before .before .before .before .before .before .before .before .before)) (c .before .before .before .before .before .before .before .before .before .before .before .before .before .before .before .before .loop .inv .0) (c .before .before .before .before .before .before .before .before .before .before .before .before .before .before .before .before .before .before .before .before .before .before .before .before .before .before .pre .0) _ (c .before .before .before .before .before .before .before .before .next-in .ensures .0) (c .before .before .before .before .before .before .before .before .next-in .ensures .1) (c .before .before .before .before .before .before .before .before .before .before .if1 .taken) (c .before .before .before .before .before .before .before .before .before .if2 .taken) (c .before .before .before .before .before .before .before .if3 .left) (c .before .before .before .before .before .before .if4 .left) _ _ _ (c .before .before .before .before .two2 .ensures .0) (c .before .before .two3 .ensures .0) (c .before .before .two3 .ensures .1) (c .eight .ensures))
 
 next-in-requires-2 : tie.Need-next-in-requires-2 Inv-loop μ-loop
-next-in-requires-2 c κs = walking-fits _ _ _ _ _ _ _ (c .before .before .before .before .before .before .before .before .before .loop .inv .2) (c .before .before .before .before .before .before .before .visit .ensures) (taken (c .before .before .before .before)) (c .before .before .before .before .before .before .before .before .before .before .before .before .before .before .before .before .before .before .before .pre .1)
+next-in-requires-2 c κs = walking-fits _ _ _ _ _ _ _ (c .before .before .before .before .before .before .before .loop .inv .2) (c .before .before .before .before .before .visit .ensures) (taken (c .before .before)) (c .before .before .before .before .before .before .before .before .before .before .before .before .before .before .before .before .before .pre .1)
 
 loop-less-2 : tie.Need-loop-less-2 Inv-loop μ-loop
-loop-less-2 c = omega (arith, walking-room _ _ _ _ _ _ _ (c .before .before .before .before .before .before .before .before .before .before .loop .inv .2) (c .before .before .before .before .before .before .before .before .visit .ensures) (taken (c .before .before .before .before .before)))
+loop-less-2 c = omega (arith, walking-room _ _ _ _ _ _ _ (c .before .before .before .before .before .before .before .before .loop .inv .2) (c .before .before .before .before .before .before .visit .ensures) (taken (c .before .before .before)))
 
 loop-again-2 : tie.Need-loop-again-2 Inv-loop μ-loop
-loop-again-2 c = (search needs, search needs, walking-next _ _ _ _ _ _ _ (c .before .before .before .before .before .before .before .before .before .before .loop .inv .2) (c .before .before .before .before .before .before .before .before .visit .ensures) (taken (c .before .before .before .before .before)) (c .before .before .before .before .before .before .before .before .before .before .loop .inv .0) (c .before .before .before .before .before .before .before .before .before .before .before .before .before .before .before .before .before .before .before .before .pre .0) _ _ (c .before .before .before .first-in .ensures .0) (c .next-in2 .ensures .0) (c .before .before .before .first-in .ensures .1) (c .next-in2 .ensures .1) (c .before .before .before .before .if1 .taken) (c .before .before .if2 .left) (c .before .if3 .left))
+loop-again-2 c = (search needs, search needs, walking-next _ _ _ _ _ _ _ (c .before .before .before .before .before .before .before .before .loop .inv .2) (c .before .before .before .before .before .before .visit .ensures) (taken (c .before .before .before)) (c .before .before .before .before .before .before .before .before .loop .inv .0) (c .before .before .before .before .before .before .before .before .before .before .before .before .before .before .before .before .before .before .pre .0) _ (c .next-in2 .ensures .0) (c .next-in2 .ensures .1) (c .before .before .if1 .taken) (c .before .if2 .left))
 
 next-in-requires-3 : tie.Need-next-in-requires-3 Inv-loop μ-loop
 next-in-requires-3 c κs = walking-fits _ _ _ _ _ _ _ (c .before .before .before .before .before .before .before .loop .inv .2) (c .before .before .before .before .before .visit .ensures) (taken (c .before .before)) (c .before .before .before .before .before .before .before .before .before .before .before .before .before .before .before .before .before .pre .1)
 
-same-length-5 : tie.Need-same-length-5 Inv-loop μ-loop
-same-length-5 c = search needs
+same-length-4 : tie.Need-same-length-4 Inv-loop μ-loop
+same-length-4 c = search needs
 
-returns-5 : tie.Need-returns-5 Inv-loop μ-loop
-returns-5 c = wandered-behind _ _ _ _ _ _ _ (c .before .before .before .before .before .before .before .before .before .loop .inv .2) (c .before .before .before .before .before .before .before .visit .ensures) (taken (c .before .before .before .before)) _ _ (c .before .next-in3 .ensures .0) (c .if7 .taken) (c .before .before .if6 .taken)
+returns-4 : tie.Need-returns-4 Inv-loop μ-loop
+returns-4 c = wandered-behind _ _ _ _ _ _ _ (c .before .before .before .before .before .before .before .before .before .loop .inv .2) (c .before .before .before .before .before .before .before .visit .ensures) (taken (c .before .before .before .before)) _ _ (c .before .next-in3 .ensures .0) (c .if6 .taken) (c .before .before .if5 .taken)
 
-first-in-requires-2 : tie.Need-first-in-requires-2 Inv-loop μ-loop
-first-in-requires-2 c κs = walking-fits _ _ _ _ _ _ _ (c .before .before .before .before .before .before .before .before .before .loop .inv .2) (c .before .before .before .before .before .before .before .visit .ensures) (taken (c .before .before .before .before)) (c .before .before .before .before .before .before .before .before .before .before .before .before .before .before .before .before .before .before .before .pre .1)
+first-in-requires : tie.Need-first-in-requires Inv-loop μ-loop
+first-in-requires c κs = walking-fits _ _ _ _ _ _ _ (c .before .before .before .before .before .before .before .before .before .loop .inv .2) (c .before .before .before .before .before .before .before .visit .ensures) (taken (c .before .before .before .before)) (c .before .before .before .before .before .before .before .before .before .before .before .before .before .before .before .before .before .before .before .pre .1)
 
 loop-less-3 : tie.Need-loop-less-3 Inv-loop μ-loop
-loop-less-3 c = omega (arith, walking-room _ _ _ _ _ _ _ (c .before .before .before .before .before .before .before .before .before .before .before .loop .inv .2) (c .before .before .before .before .before .before .before .before .before .visit .ensures) (taken (c .before .before .before .before .before .before)))
+loop-less-3 c = omega (arith, walking-room _ _ _ _ _ _ _ (c .before .before .before .before .before .before .before .before .before .before .loop .inv .2) (c .before .before .before .before .before .before .before .before .visit .ensures) (taken (c .before .before .before .before .before)))
 
 loop-again-3 : tie.Need-loop-again-3 Inv-loop μ-loop
-loop-again-3 c = (search needs, search needs, walking-down _ _ _ _ _ _ _ (c .before .before .before .before .before .before .before .before .before .before .before .loop .inv .2) (c .before .before .before .before .before .before .before .before .before .visit .ensures) (taken (c .before .before .before .before .before .before)) (c .before .before .before .before .before .before .before .before .before .before .before .loop .inv .0) (c .before .before .before .before .before .before .before .before .before .before .before .before .before .before .before .before .before .before .before .before .before .pre .0) _ _ (c .before .first-in2 .ensures .0) (c .before .before .before .next-in3 .ensures .0) (c .before .first-in2 .ensures .1) (c .before .before .before .next-in3 .ensures .1) (c .before .before .before .before .before .if1 .left) (c .before .before .before .before .if6 .taken) (c .before .before .if7 .left))
+loop-again-3 c = (search needs, search needs, walking-down _ _ _ _ _ _ _ (c .before .before .before .before .before .before .before .before .before .before .loop .inv .2) (c .before .before .before .before .before .before .before .before .visit .ensures) (taken (c .before .before .before .before .before)) (c .before .before .before .before .before .before .before .before .before .before .loop .inv .0) (c .before .before .before .before .before .before .before .before .before .before .before .before .before .before .before .before .before .before .before .before .pre .0) _ (c .before .before .next-in3 .ensures .0) (c .before .before .next-in3 .ensures .1) (c .before .before .before .before .if1 .left) _ (c .first-in .ensures .0) (c .first-in .ensures .1) (c .before .before .before .if5 .taken) (c .before .if6 .left))
 
 next-in-requires-4 : tie.Need-next-in-requires-4 Inv-loop μ-loop
 next-in-requires-4 c κs = walking-fits _ _ _ _ _ _ _ (c .before .before .before .before .before .before .before .before .loop .inv .2) (c .before .before .before .before .before .before .visit .ensures) (taken (c .before .before .before)) (c .before .before .before .before .before .before .before .before .before .before .before .before .before .before .before .before .before .before .pre .1)
@@ -139,14 +133,14 @@ put-frame-requires c κs = search needs
 add-top : tie.Need-add-top Inv-loop μ-loop
 add-top c = search needs
 
-first-in-requires-3 : tie.Need-first-in-requires-3 Inv-loop μ-loop
-first-in-requires-3 c κs = walking-fits _ _ _ _ _ _ _ (c .before .before .before .before .before .before .before .before .before .before .before .before .loop .inv .2) (c .before .before .before .before .before .before .before .before .before .before .visit .ensures) (taken (c .before .before .before .before .before .before .before)) (c .before .before .before .before .before .before .before .before .before .before .before .before .before .before .before .before .before .before .before .before .before .before .pre .1)
+first-in-requires-2 : tie.Need-first-in-requires-2 Inv-loop μ-loop
+first-in-requires-2 c κs = walking-fits _ _ _ _ _ _ _ (c .before .before .before .before .before .before .before .before .before .before .before .before .loop .inv .2) (c .before .before .before .before .before .before .before .before .before .before .visit .ensures) (taken (c .before .before .before .before .before .before .before)) (c .before .before .before .before .before .before .before .before .before .before .before .before .before .before .before .before .before .before .before .before .before .before .pre .1)
 
 loop-less-4 : tie.Need-loop-less-4 Inv-loop μ-loop
-loop-less-4 c = omega (arith, walking-room _ _ _ _ _ _ _ (c .before .before .before .before .before .before .before .before .before .before .before .before .before .before .loop .inv .2) (c .before .before .before .before .before .before .before .before .before .before .before .before .visit .ensures) (taken (c .before .before .before .before .before .before .before .before .before)))
+loop-less-4 c = omega (arith, walking-room _ _ _ _ _ _ _ (c .before .before .before .before .before .before .before .before .before .before .before .before .before .loop .inv .2) (c .before .before .before .before .before .before .before .before .before .before .before .visit .ensures) (taken (c .before .before .before .before .before .before .before .before)))
 
 loop-again-4 : tie.Need-loop-again-4 Inv-loop μ-loop
-loop-again-4 c = (search needs, search needs, walking-push _ _ _ _ _ _ _ (c .before .before .before .before .before .before .before .before .before .before .before .before .before .before .loop .inv .2) (c .before .before .before .before .before .before .before .before .before .before .before .before .visit .ensures) (taken (c .before .before .before .before .before .before .before .before .before)) (c .before .before .before .before .before .before .before .before .before .before .before .before .before .before .loop .inv .0) (c .before .before .before .before .before .before .before .before .before .before .before .before .before .before .before .before .before .before .before .before .before .before .before .before .pre .0) _ _ (c .before .first-in3 .ensures .0) (c .before .before .before .before .before .next-in4 .ensures .0) (c .before .first-in3 .ensures .1) (c .before .before .before .before .before .next-in4 .ensures .1) (c .before .before .before .before .before .before .before .before .if1 .left) (c .before .before .before .before .before .before .before .if6 .left) _ (c .before .before .before .before .put-frame .ensures))
+loop-again-4 c = (search needs, search needs, walking-push _ _ _ _ _ _ _ (c .before .before .before .before .before .before .before .before .before .before .before .before .before .loop .inv .2) (c .before .before .before .before .before .before .before .before .before .before .before .visit .ensures) (taken (c .before .before .before .before .before .before .before .before)) (c .before .before .before .before .before .before .before .before .before .before .before .before .before .loop .inv .0) (c .before .before .before .before .before .before .before .before .before .before .before .before .before .before .before .before .before .before .before .before .before .before .before .pre .0) _ (c .before .before .before .before .next-in4 .ensures .0) (c .before .before .before .before .next-in4 .ensures .1) (c .before .before .before .before .before .before .before .if1 .left) _ (c .first-in2 .ensures .0) (c .first-in2 .ensures .1) (c .before .before .before .before .before .before .if5 .left) _ (c .before .before .before .put-frame .ensures))
 
 pub wander-spec : {M : Type 1} → statement M
 wander-spec =
@@ -157,6 +151,7 @@ wander-spec =
     fresh-requires
     mul-bottom
     two-requires
+    add-due
     loop-holds
     visit-requires
     enum-told
@@ -166,14 +161,11 @@ wander-spec =
     same-length
     returns
     add-i
-    first-in-requires
+    next-in-requires
     same-length-2
     returns-2
-    next-in-requires
     same-length-3
     returns-3
-    same-length-4
-    returns-4
     sub-top
     two-requires-2
     add-two
@@ -186,14 +178,14 @@ wander-spec =
     loop-less-2
     loop-again-2
     next-in-requires-3
-    same-length-5
-    returns-5
-    first-in-requires-2
+    same-length-4
+    returns-4
+    first-in-requires
     loop-less-3
     loop-again-3
     next-in-requires-4
     put-frame-requires
     add-top
-    first-in-requires-3
+    first-in-requires-2
     loop-less-4
     loop-again-4)

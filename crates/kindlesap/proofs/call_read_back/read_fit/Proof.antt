@@ -14,7 +14,7 @@ slice-aggregate-read-tree : tie.Need-slice-aggregate-read-tree
 slice-aggregate-read-tree c = search needs
 
 read-tree-requires : tie.Need-read-tree-requires
-read-tree-requires c κs = let z = c .before .before .slots-of .ensures .right (c .before .if1 .left) in (z .0, z .1, search needs, search needs)
+read-tree-requires c κs = let z = c .before .before .slots-of .ensures .right (c .before .if1 .left) in (z .0, z .1, search needs, search needs, c .before .before .before .before .before .before .pre)
 
 enum-known-o : tie.Need-enum-known-o
 enum-known-o c = search needs

@@ -1,3 +1,4 @@
+use Rattle.grammar.specs.Rows.{start-small}
 use Rattle.base.specs.Blocks.{zeros}
 use mathlib.Core.Path.{refl}
 use Rattle.kindlesap.specs.Judging.{judged-useless, judged-conflict, judged-fit}
@@ -25,7 +26,7 @@ enum-told : tie.Need-enum-told
 enum-told c = search needs
 
 read-fit-requires : tie.Need-read-fit-requires
-read-fit-requires c κs = search needs
+read-fit-requires c κs = start-small _ _ _ _ _ (c .before .before .before .before .before .before .before .before .before .before .before .before .pre .0)
 
 returns : tie.Need-returns
 returns c = judged-useless _ _ _ (c .before .before .before .before .before .judge .ensures) (search needs)
