@@ -10,11 +10,11 @@ use Rattle.grammar.specs.Forest.{size, yield}
 use Rattle.grammar.specs.Rows.{lengthAt, grammarIn}
 use Rattle.grammar.specs.RowRules.{rule-row}
 use Rattle.trees.specs.Area.{maxSlots, areaSize, Valid}
-use Rattle.trees.specs.Nodes.{preorder, leavesOf, leaves-yield, Arity, derives-formed}
+use Rattle.trees.specs.Nodes.{preorder, leavesOf, leaves-yield, Arity, derives-formed, size-preorder}
 use Rattle.trees.specs.Coded.{nodeSize, nodesFrom, arityIn}
 use Rattle.notes.specs.Views.{notesSize}
 use Rattle.plain.specs.Machine.{length-symbols}
-use Rattle.walks.specs.Reading.{valid-few, size-preorder}
+use Rattle.walks.specs.Reading.{valid-few}
 use Rattle.walks.specs.Closing.{Reads}
 use Rattle.walks.specs.declared.Walked.{Walked}
 

@@ -6,3 +6,4 @@ pub mod Bits
 pub mod Bytes
 pub mod Blocks
 pub mod Filled
+pub mod Written

@@ -1,4 +1,4 @@
-// Bytes and runs of bytes. A read beyond the end gives 0, and a write there changes nothing, but for `two`, `four` and `put_two`, which ask to stay inside.
+// Bytes and runs of bytes. A read beyond the end gives 0, and a write there changes nothing, but for `two`, `four`, `eight`, `put_two` and `put_eight`, which ask to stay inside.
 ghost use mathlib.Core.Path.{_≡_};
 ghost use Prim.Native.Nat.{_+_, _*_, _^_, _<_, _≤_, min};
 ghost use lib.ListN.{length, set};
@@ -6,6 +6,7 @@ ghost use Rattle.base.specs.Bytes.{byteAt, get16 as get16m, get32 as get
 ghost use Rattle.base.specs.Bits.{Dark, Level};
 ghost use Rattle.base.specs.Blocks.{zeros, copied, Alike};
 ghost use Rattle.base.specs.Tells.{Tells};
+ghost use Rattle.base.specs.Written.{get64, Eight};
 
 // A byte as a number to compute with.
 pub fn wide(x: u8) -> usize
@@ -92,6 +93,23 @@ pub fn put_two(b: &mut [u8], at: usize, v: usize)
 {
     b[at] = (v % 256) as u8;
     b[at + 1] = (v / 256) as u8;
+}
+
+pub fn eight(b: &[u8], at: usize) -> usize
+    requires { ⌜ at + 8 ≤ length (now b) ⌝ }
+    ensures { λ r. ⌜ r ≡ get64 (now (b .entry)) at ⌝ }
+{
+    four(b, at) + 4294967296 * four(b, at + 4)
+}
+
+pub fn put_eight(b: &mut [u8], at: usize, v: usize)
+    requires { ⌜ at + 8 ≤ length (now b) ⌝ }
+    ensures { λ _. ⌜ Eight (now (b .entry)) at v (now (b .exit)) ⌝ }
+{
+    put_two(b, at, v % 65536);
+    put_two(b, at + 2, v / 65536 % 65536);
+    put_two(b, at + 4, v / 65536 / 65536 % 65536);
+    put_two(b, at + 6, v / 65536 / 65536 / 65536);
 }
 
 pub fn zero(w: &mut [u8])

@@ -78,12 +78,32 @@ fn put_node(out: &mut [u8], at: usize, tree: &[u8], s: usize) -> usize
     requires { ⌜ (at + lineRoom ≤ length (now out)) × (s ≤ maxSlots) ⌝ }
     ensures { λ r. ⌜ Written (slotRow (now (tree .entry)) s) at (now (out .entry)) r (now (out .exit)) × (r ≤ at + lineRoom) ⌝ }
 {
-    let from = 16 * s;
+    let from = trees::SLOT_SIZE * s;
     let a = put_field(out, at, s as u64, SPACE);
-    let b = put_field(out, a, base::byte_at(tree, from + 2) as u64, SPACE);
-    let c = put_field(out, b, base::byte_at(tree, from + 3) as u64, SPACE);
-    let d = put_field(out, c, base::get16(tree, from + 4) as u64, SPACE);
-    put_field(out, d, base::get32(tree, from + 10) as u64, NEWLINE)
+    let b = put_field(
+        out,
+        a,
+        base::byte_at(tree, from + trees::SYMBOL_PLACE) as u64,
+        SPACE,
+    );
+    let c = put_field(
+        out,
+        b,
+        base::byte_at(tree, from + trees::PRODUCTION_PLACE) as u64,
+        SPACE,
+    );
+    let d = put_field(
+        out,
+        c,
+        base::get16(tree, from + trees::PARENT_PLACE) as u64,
+        SPACE,
+    );
+    put_field(
+        out,
+        d,
+        base::get32(tree, from + trees::TAG_PLACE) as u64,
+        NEWLINE,
+    )
 }
 
 // Slots 1 to n.
@@ -104,7 +124,11 @@ fn put_tree(out: &mut [u8], tree: &[u8], nodes: usize) -> usize
     requires { ⌜ (textRoom ≤ length (now out)) × (nodes ≤ maxSlots) ⌝ }
     ensures { λ r. ⌜ Written (areaText (now (tree .entry)) nodes) 0 (now (out .entry)) r (now (out .exit)) ⌝ }
 {
-    let a = put_accepted(out, nodes as u64, base::get16(tree, 6) as u64);
+    let a = put_accepted(
+        out,
+        nodes as u64,
+        base::get16(tree, trees::TOKENS_PLACE) as u64,
+    );
     put_nodes(out, a, tree, nodes)
 }
 

@@ -7,8 +7,8 @@ use lib.ListN.{length, getD, set, take, length-append}
 use lib.Seq.{take-all, take-at, getD-set-same, getD-set-other}
 use native.Mathlib.Decide.{ℕ-discrete, decLt}
 use native.Mathlib.Omega.{arith}
-use Rattle.grammar.specs.Forest.{Token, Forest, size, yield}
-use Rattle.trees.specs.Nodes.{Node as Entry, innerNode, leafNode, preorder, leavesOf, Formed, leaves-append, leaves-yield, leafOf, no-leaf}
+use Rattle.grammar.specs.Forest.{Token, Forest, yield}
+use Rattle.trees.specs.Nodes.{Node as Entry, innerNode, leafNode, preorder, leavesOf, Formed, leaves-append, leaves-yield, leafOf, no-leaf, size-preorder}
 use Rattle.trees.specs.Coded.{nodeAt, nodesFrom, length-nodes}
 use Rattle.edits.specs.Keeping.{Edit, Kept, own, beside, Node}
 use Rattle.edits.specs.Places.{treeSize, at-number, Numbered, at-node, at-listed, at-leaves}
@@ -66,11 +66,6 @@ record Headed (f : Forest) : Type 0 where
   is : preorder f ≡ nodes ++ preorder (beside f)
   long : length nodes ≡ treeSize f
   leaves : length (leavesOf nodes) ≡ own f
-
-size-preorder : (f : Forest) → length (preorder f) ≡ size f
-size-preorder Forest.nil = refl
-size-preorder (Forest.leaf s x g r) = ap suc (size-preorder r)
-size-preorder (Forest.node s M p k r) = omega (arith, length-append (preorder k) (preorder r), size-preorder k, size-preorder r)
 
 headed : {ar : ℕ → ℕ} {f : Forest} → Formed ar f → Headed f
 headed Formed.nil = record { nodes = []; is = refl; long = refl; leaves = refl }

@@ -7,7 +7,8 @@ use lib.ListN.{length, getD, set, take, drop, length-set, length-take, length-dr
 use lib.Seq.{getD-take, getD-drop, getD-append-add, getD-set-same, getD-set-other, ext-getD, length-take-le}
 use native.Mathlib.Decide.{ℕ-discrete, decLt}
 use native.Mathlib.Omega.{arith}
-use Rattle.base.specs.Bytes.{byteAt, get16, put16, byte-out, length-put16, get-put16, byte-put16}
+use Rattle.base.specs.Bytes.{byteAt, get16, put16, byte-out, length-put16, get-put16}
+use Rattle.base.specs.Written.{Only, only-word, only-byte, word-kept}
 use Rattle.base.specs.Blocks.{zeros, length-zeros, byte-zeros}
 use Rattle.trees.specs.Nodes.{Node}
 use Rattle.trees.specs.Coded.{nodeSize, nodeAt, nodesFrom}
@@ -112,30 +113,7 @@ list-set f g n x v l e h =
 list-zeros : (f : ℕ → ℕ) (n : ℕ) → ((j : ℕ) → j < n → f j ≡ 0) → listFrom f n 0 ≡ zeros n
 list-zeros f n h = list-is f n (zeros n) (length-zeros n) (λ j l. h j l ∙ sym (byte-zeros n j))
 
--- ---- a write of the bytes a..b
-
--- the others are as they were
-pub record Only (a b : ℕ) (w w' : List ℕ) : Type 0 where
-  pub long : length w' ≡ length w
-  pub others : (j : ℕ) → (j < a) ⊎ (b ≤ j) → byteAt w' j ≡ byteAt w j
-
-only-word : (w : List ℕ) (a v : ℕ) → Only a (a + 2) w (put16 w a v)
-only-word w a v =
-    record {
-      long = length-put16 w a v;
-      others = λ j o. byte-put16 w a v j (λ e. out j o (omega arith)) (λ e. out j o (omega arith));
-    }
-  where
-    out : (j : ℕ) → (j < a) ⊎ (a + 2 ≤ j) → (a ≤ j) × (j < a + 2) → ⊥
-    out j (inl x) y = omega (arith, y .0)
-    out j (inr x) y = omega (arith, y .1)
-
-only-byte : (w : List ℕ) (a v : ℕ) → Only a (a + 1) w (set w a v)
-only-byte w a v = record { long = length-set w a v; others = λ j o. getD-set-other w a j v 0 (λ e. out j o e) }
-  where
-    out : (j : ℕ) → (j < a) ⊎ (a + 1 ≤ j) → j ≡ a → ⊥
-    out j (inl x) e = omega arith
-    out j (inr x) e = omega arith
+-- ---- a write of some bytes
 
 -- a part in place of what stood there
 abbrev pub withPart : List ℕ → ℕ → ℕ → List ℕ → List ℕ
@@ -168,16 +146,6 @@ module _ (w : List ℕ) (a b : ℕ) (p : List ℕ) (l : a ≤ b) (m : b ≤ leng
           ∙ getD-drop (b - a) (drop a w) (j - b) 0 ∙ getD-drop a w (b - a + (j - b)) 0 ∙ ap (byteAt w) s
 
 module _ {a b : ℕ} {w w' : List ℕ} (h : Only a b w w') where
-  word-kept : (at : ℕ) → (at + 2 ≤ a) ⊎ (b ≤ at) → get16 w' at ≡ get16 w at
-  word-kept at (inl x) =
-      let y = h .others at (inl (omega arith)) in
-      let z = h .others (at + 1) (inl (omega arith)) in
-      omega (arith, y, z)
-  word-kept at (inr x) =
-      let y = h .others at (inr x) in
-      let z = h .others (at + 1) (inr (omega arith)) in
-      omega (arith, y, z)
-
   nodes-kept : (S : ℕ) → nodeSize * (S + S) ≤ a → nodesIn S w' ≡ nodesIn S w
   unfolding nodesIn
   nodes-kept S l =
@@ -186,10 +154,10 @@ module _ {a b : ℕ} {w w' : List ℕ} (h : Only a b w w') where
       (λ j k. let x : j < L = omega (arith, length-take L w') in getD-take L w' j 0 x ∙ h .others j (inl (omega arith)) ∙ sym (getD-take L w j 0 x))
 
   field-kept : (S at n : ℕ) → b ≤ nodeSize * (S + S) → fieldIn S at n w' ≡ fieldIn S at n w
-  field-kept S at n l = list-same _ _ n (λ j m. word-kept (noteAt S j + at) (inr (omega arith)))
+  field-kept S at n l = list-same _ _ n (λ j m. word-kept h (noteAt S j + at) (inr (omega arith)))
 
   field-before : (S at n : ℕ) → at ≤ matchPlace → n ≤ S + S + 1 → marksAt S ≤ a → fieldIn S at n w' ≡ fieldIn S at n w
-  field-before S at n l k m = list-same _ _ n (λ j o. word-kept (noteAt S j + at) (inl (omega arith)))
+  field-before S at n l k m = list-same _ _ n (λ j o. word-kept h (noteAt S j + at) (inl (omega arith)))
 
   marks-kept : (S : ℕ) → b ≤ marksAt S → marksIn S w' ≡ marksIn S w
   unfolding marksIn

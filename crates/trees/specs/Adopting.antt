@@ -7,9 +7,9 @@ use native.Mathlib.Omega.{arith}
 use Rattle.base.specs.Bytes.{get16, put16, length-put16, byte-put16}
 use Rattle.grammar.specs.Each.{Each, each-parts, each-map}
 use Rattle.grammar.specs.Forest.{Forest}
-use Rattle.trees.specs.Area.{slotSize, maxSlots, areaSize, tagSpace, slotAt, slotBytes, top, slots, Distinct, Linked}
+use Rattle.trees.specs.Area.{slotSize, maxSlots, areaSize, tagSpace, slotAt, slotBytes, top, slots, Distinct, Linked, parentPlace, nextPlace}
 use Rattle.trees.specs.Nodes.{trees, front, back}
-use Rattle.trees.specs.Slots.{Slotted, parentPlace, nextPlace, parent-put, next-put, next-get}
+use Rattle.trees.specs.Slots.{Slotted, parent-put, next-put, next-get}
 
 -- ---- as the code does it
 

@@ -37,14 +37,45 @@ nodeMark = 0x4E ∷ 0x44 ∷ []
 unfoldable pub headerBytes : ℕ → ℕ → ℕ → List ℕ
 headerBytes root used tokens = treeMark ++ (leBytes 2 root ++ (leBytes 2 used ++ (leBytes 2 tokens ++ zeros 8)))
 
--- where the header has the number of tokens
+-- where the header has the root slot, the number of used slots, that of tokens, and the zeros
+abbrev pub rootPlace : ℕ
+rootPlace = 2
+
+abbrev pub usedPlace : ℕ
+usedPlace = 4
+
 abbrev pub tokensPlace : ℕ
 tokensPlace = 6
+
+abbrev pub headerSpare : ℕ
+headerSpare = 8
 
 -- "A used slot: `4E 44`, symbol and production (1 byte each; production 0 for a leaf), then parent, first child and next sibling (2 bytes each, 0 for none), tag (4; 0 unless a leaf), two zeros"
 unfoldable pub slotBytes : ℕ → ℕ → ℕ → ℕ → ℕ → ℕ → List ℕ
 slotBytes symbol production parent first next tag =
     nodeMark ++ (symbol ∷ production ∷ (leBytes 2 parent ++ (leBytes 2 first ++ (leBytes 2 next ++ (leBytes 4 tag ++ zeros 2)))))
+
+-- where a used slot has them
+abbrev pub symbolPlace : ℕ
+symbolPlace = 2
+
+abbrev pub productionPlace : ℕ
+productionPlace = 3
+
+abbrev pub parentPlace : ℕ
+parentPlace = 4
+
+abbrev pub firstPlace : ℕ
+firstPlace = 6
+
+abbrev pub nextPlace : ℕ
+nextPlace = 8
+
+abbrev pub tagPlace : ℕ
+tagPlace = 10
+
+abbrev pub sparePlace : ℕ
+sparePlace = 14
 
 -- the bytes of slot s: "Slots are numbered from 1"; those of the header stand where slot 0 would
 abbrev pub slotAt : List ℕ → ℕ → List ℕ

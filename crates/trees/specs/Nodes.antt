@@ -8,7 +8,7 @@ use Rattle.base.specs.Choose.{never}
 use mathlib.Core.Option.{some}
 use Rattle.grammar.specs.Grammar.{Grammar, Production, numbered, Rule, Terminal}
 use Rattle.grammar.specs.Forest.{Token, Forest, size, yield, Derives}
-use Rattle.grammar.specs.Trees.{join, parts, yield-join, size-join}
+use Rattle.grammar.specs.Trees.{join, parts}
 
 -- a slot, its symbol and production (0 for a leaf), and its tag (0 unless a leaf)
 pub record Node : Type 0 where
@@ -28,6 +28,11 @@ abbrev pub preorder : Forest → List Node
 preorder Forest.nil = []
 preorder (Forest.leaf s a g r) = leafNode s a g ∷ preorder r
 preorder (Forest.node s M p k r) = innerNode s M p ∷ (preorder k ++ preorder r)
+
+pub size-preorder : (f : Forest) → length (preorder f) ≡ size f
+size-preorder Forest.nil = refl
+size-preorder (Forest.leaf s a g r) = ap suc (size-preorder r)
+size-preorder (Forest.node s M p k r) = omega (arith, length-append (preorder k) (preorder r), size-preorder k, size-preorder r)
 
 -- the tokens of the leaves
 abbrev pub leavesOf : List Node → List Token

@@ -10,7 +10,7 @@ use native.Mathlib.Omega.{arith}
 use Rattle.base.specs.Bytes.{byteAt, get16, put16, leBytes, length-put16, byte-put16}
 use Rattle.base.specs.Blocks.{zeros, length-zeros, byte-zeros}
 use Rattle.base.specs.Filled.{Filled}
-use Rattle.trees.specs.Area.{slotSize, slotAt, slotBytes, headerBytes}
+use Rattle.trees.specs.Area.{slotSize, slotAt, slotBytes, headerBytes, parentPlace, nextPlace}
 
 -- b' is b with c in slot s
 pub record Slotted (b : List ℕ) (s : ℕ) (c b' : List ℕ) : Type 0 where
@@ -73,13 +73,6 @@ slotted-put16 b s j v l =
     go : (x : ℕ) → (x < s) ⊎ (s < x) → (i : ℕ) → slotSize * x ≤ i → i < slotSize * x + slotSize → byteAt (put16 b (slotSize * s + j) v) i ≡ byteAt b i
     go x (inl m) i u w = byte-put16 b (slotSize * s + j) v i (λ e. omega arith) (λ e. omega arith)
     go x (inr m) i u w = byte-put16 b (slotSize * s + j) v i (λ e. omega arith) (λ e. omega arith)
-
--- the places of a slot's parent and next sibling
-abbrev pub parentPlace : ℕ
-parentPlace = 4
-
-abbrev pub nextPlace : ℕ
-nextPlace = 8
 
 module _ (b : List ℕ) (s a p o f n g : ℕ) (e : slotAt b s ≡ slotBytes a p o f n g) where
   pub parent-put : (v : ℕ) → v < 65536 → Slotted b s (slotBytes a p v f n g) (put16 b (slotSize * s + parentPlace) v)

@@ -2,13 +2,13 @@
 ghost use mathlib.Core.Path.{_≡_};
 ghost use Prim.Native.Nat.{_+_, _-_, _*_, _<_, _≤_};
 ghost use lib.ListN.{length};
-ghost use Rattle.trees.specs.Area.{slotSize, maxSlots, areaSize, tagSpace, slotBytes, headerBytes, Area};
+ghost use Rattle.trees.specs.Area.{slotSize, maxSlots, areaSize, tagSpace, slotBytes, headerBytes, Area, parentPlace, nextPlace};
 ghost use Rattle.base.specs.Bytes.{byteAt, get16, put16};
 ghost use Rattle.base.specs.Filled.{Filled};
 ghost use Rattle.trees.specs.Coded.{nodeSize, nodeBytes, nodeAt, nodesFrom, arityIn};
 ghost use Rattle.trees.specs.Nodes.{leafOf, build, Fed};
 ghost use Rattle.trees.specs.Listing.{nodeOf, inSlot, Fits, Put};
-ghost use Rattle.trees.specs.Slots.{Slotted, parentPlace, nextPlace};
+ghost use Rattle.trees.specs.Slots.{Slotted};
 ghost use Rattle.trees.specs.Adopting.{adopted, Reach};
 ghost use Rattle.trees.specs.Laying.{Ready, Lays};
 ghost use Rattle.trees.specs.Spread.{Spread};
@@ -30,13 +30,29 @@ pub const NODE_MARK: u8 = 0x4E;
 
 pub const NODE_MARK_END: u8 = 0x44;
 
-// Where a header has the number of tokens.
+// Where a header has the root slot, the number of used slots, that of tokens, and zeros.
+pub const ROOT_PLACE: usize = 2;
+
+pub const USED_PLACE: usize = 4;
+
 pub const TOKENS_PLACE: usize = 6;
 
-// The places of a slot's parent and next sibling.
-const PARENT: usize = 4;
+pub const HEADER_SPARE: usize = 8;
 
-const NEXT: usize = 8;
+// Where a used slot has its symbol and production, its parent, first child and next sibling, its tag, and zeros.
+pub const SYMBOL_PLACE: usize = 2;
+
+pub const PRODUCTION_PLACE: usize = 3;
+
+pub const PARENT_PLACE: usize = 4;
+
+pub const FIRST_PLACE: usize = 6;
+
+pub const NEXT_PLACE: usize = 8;
+
+pub const TAG_PLACE: usize = 10;
+
+pub const SPARE_PLACE: usize = 14;
 
 // Of node i, counted from 0: its symbol, production, slot and tag. A read beyond the end gives 0.
 pub fn symbol_of(nodes: &[u8], i: usize) -> usize
@@ -175,8 +191,8 @@ fn hang(area: &mut [u8], s: usize, parent: usize) -> usize
     requires { ⌜ (slotSize * s + slotSize ≤ length (now area)) × (parent < 65536) ⌝ }
     ensures { λ r. ⌜ (now (area .exit) ≡ put16 (now (area .entry)) (slotSize * s + parentPlace) parent) × (r ≡ get16 (now (area .exit)) (slotSize * s + nextPlace)) × (r < 65536) ⌝ }
 {
-    base::put_two(area, SLOT_SIZE * s + PARENT, parent);
-    base::two(area, SLOT_SIZE * s + NEXT)
+    base::put_two(area, SLOT_SIZE * s + PARENT_PLACE, parent);
+    base::two(area, SLOT_SIZE * s + NEXT_PLACE)
 }
 
 // Sets the parent of k trees, the first one at `head`, cuts the last one from the tree behind it, and answers that tree's slot.
@@ -191,7 +207,7 @@ fn adopt(area: &mut [u8], parent: usize, head: usize, k: usize) -> usize
         more -= 1;
     }
     let next = hang(area, s, parent);
-    base::put_two(area, SLOT_SIZE * s + NEXT, 0);
+    base::put_two(area, SLOT_SIZE * s + NEXT_PLACE, 0);
     next
 }
 

@@ -12,11 +12,12 @@ use borrow.Author.Count.{below-more}
 use Rattle.base.specs.Choose.{never}
 use Rattle.base.specs.Tells.{Tells, tells-yes, tells-no}
 use Rattle.base.specs.Bytes.{byteAt, get16, get32, leBytes}
+use Rattle.base.specs.Written.{get64, get64-two}
 use Rattle.base.specs.Blocks.{zeros, length-zeros, byte-zeros}
 use Rattle.grammar.specs.Grammar.{Grammar}
 use Rattle.grammar.specs.Forest.{size}
-use Rattle.trees.specs.Area.{tokensPlace, slotSize, maxSlots, areaSize, headerBytes, slotAt, Valid}
-use Rattle.trees.specs.Nodes.{preorder}
+use Rattle.trees.specs.Area.{rootPlace, usedPlace, tokensPlace, slotSize, maxSlots, areaSize, headerBytes, slotAt, Valid}
+use Rattle.trees.specs.Nodes.{preorder, size-preorder}
 use Rattle.trees.specs.Coded.{nodesFrom, length-nodes}
 use Rattle.trees.specs.Slots.{slot-byte, slot-is}
 use Rattle.walks.specs.declared.Walked.{Walked}
@@ -26,18 +27,18 @@ use Rattle.walks.specs.declared.Course.the-variants.{Through, Astray}
 use Rattle.walks.specs.Slots.{Known, sixteen}
 use Rattle.walks.specs.Judging.{below}
 use Rattle.walks.specs.Going.{going-end, going-one}
-use Rattle.walks.specs.Reading.{leafCount, leaves-few, Free, found-valid, valid-few, valid-found, size-preorder}
-use Rattle.walks.specs.Stacked.{get64, get64-two, marksIn}
+use Rattle.walks.specs.Reading.{leafCount, leaves-few, Free, found-valid, valid-few, valid-found}
+use Rattle.walks.specs.Stacked.{marksIn}
 use Rattle.walks.specs.Walking.{gram, Ended, Wandered}
 
 -- ---- the header
 
 -- the header has its mark and zeros, and says so many nodes and tokens
 pub record Heads (b : List ℕ) (used tokens : ℕ) : Type 0 where
-  pub is : slotAt b 0 ≡ headerBytes (get16 b 2) used tokens
+  pub is : slotAt b 0 ≡ headerBytes (get16 b rootPlace) used tokens
 
 module _ (b : List ℕ) (used tokens : ℕ) where
-  heads-byte : Heads b used tokens → (i : ℕ) → i < slotSize → byteAt b (slotSize * 0 + i) ≡ byteAt (headerBytes (get16 b 2) used tokens) i
+  heads-byte : Heads b used tokens → (i : ℕ) → i < slotSize → byteAt b (slotSize * 0 + i) ≡ byteAt (headerBytes (get16 b rootPlace) used tokens) i
   heads-byte h i l = sym (slot-byte b 0 i l) ∙ ap (λ (w : List ℕ). byteAt w i) (h .is)
 
   pub heads-mark : (byteAt b 0 ≡ 0x54 → ⊥) → Tells (Heads b used tokens) false
@@ -48,7 +49,7 @@ module _ (b : List ℕ) (used tokens : ℕ) where
   unfolding headerBytes
   heads-mark' n = tells-no (λ h. n (heads-byte h 1 (omega arith)))
 
-  pub heads-used : (v : ℕ) → v ≡ get16 b 4 → used < 65536 → (v ≡ used → ⊥) → Tells (Heads b used tokens) false
+  pub heads-used : (v : ℕ) → v ≡ get16 b usedPlace → used < 65536 → (v ≡ used → ⊥) → Tells (Heads b used tokens) false
   unfolding headerBytes leBytes
   heads-used v e l n = tells-no (λ h. n (omega (arith, e, l, heads-byte h 4 (omega arith), heads-byte h 5 (omega arith))))
 
@@ -57,7 +58,7 @@ module _ (b : List ℕ) (used tokens : ℕ) where
   heads-tokens v e l n = tells-no (λ h. n (omega (arith, e, l, heads-byte h 6 (omega arith), heads-byte h 7 (omega arith))))
 
   -- the last eight bytes decide
-  pub heads-told : (u v : ℕ) (r : Bool) → Known b → slotSize ≤ length b → byteAt b 0 ≡ 0x54 → byteAt b 1 ≡ 0x52 → u ≡ get16 b 4 → u ≡ used → v ≡ get16 b tokensPlace → v ≡ tokens
+  pub heads-told : (u v : ℕ) (r : Bool) → Known b → slotSize ≤ length b → byteAt b 0 ≡ 0x54 → byteAt b 1 ≡ 0x52 → u ≡ get16 b usedPlace → u ≡ used → v ≡ get16 b tokensPlace → v ≡ tokens
       → Tells (take 8 (drop 8 b) ≡ zeros (length (take 8 (drop 8 b)))) r → Tells (Heads b used tokens) r
   unfolding headerBytes leBytes zeros
   heads-told u v r k l a a' e e' o o' h = record { yes = λ t. good (h .yes t); no = λ f y. h .no f (bad y) }
@@ -71,8 +72,8 @@ module _ (b : List ℕ) (used tokens : ℕ) where
       good : take 8 (drop 8 b) ≡ zeros (length (take 8 (drop 8 b))) → Heads b used tokens
       good z =
           let y : (i : ℕ) → i < 8 → byteAt b (8 + i) ≡ 0 = λ i w. sym (part i w) ∙ ap (λ (x : List ℕ). byteAt x i) z ∙ byte-zeros (length (take 8 (drop 8 b))) i in
-          let c : List ℕ = headerBytes (get16 b 2) used tokens in
-          let g : used ≡ get16 b 4 = sym e' ∙ e in
+          let c : List ℕ = headerBytes (get16 b rootPlace) used tokens in
+          let g : used ≡ get16 b usedPlace = sym e' ∙ e in
           let g' : tokens ≡ get16 b tokensPlace = sym o' ∙ o in
           record {
             is = slot-is b c 0 l refl (sixteen (λ i. byteAt b (slotSize * 0 + i) ≡ byteAt c i) a a'
@@ -269,7 +270,7 @@ module _ (rows : List ℕ) (t n start count S : ℕ) (b w : List ℕ) where
     pub reads-header : (Heads b i leaves → ⊥) → Reads G· S b w NoTree
     reads-header k =
         Reads.none (λ v. let q = same v in
-        let o : slotAt b 0 ≡ headerBytes (get16 b 2) (length (nodesFrom w i 0)) (leafCount (nodesFrom w i 0)) = rw q at (valid-found v .header) in
+        let o : slotAt b 0 ≡ headerBytes (get16 b rootPlace) (length (nodesFrom w i 0)) (leafCount (nodesFrom w i 0)) = rw q at (valid-found v .header) in
         k (record { is = rw (← length-nodes w i 0, ended .counted) o }))
 
     pub reads-spoilt : (m : List ℕ) → m ≡ marksIn S w → (ClearTo b m (S + 1) → ⊥) → Reads G· S b w NoTree
@@ -282,7 +283,7 @@ module _ (rows : List ℕ) (t n start count S : ℕ) (b w : List ℕ) where
     reads-tree o few long hd m e h =
         let cl : ClearTo b (marksIn S w) (S + 1) = rw e at h in
         let es = nodesFrom w i 0 in
-        let q : slotAt b 0 ≡ headerBytes (get16 b 2) (length (nodesFrom w i 0)) (leafCount (nodesFrom w i 0)) = rw (length-nodes w i 0, ← ended .counted) (hd .is) in
+        let q : slotAt b 0 ≡ headerBytes (get16 b rootPlace) (length (nodesFrom w i 0)) (leafCount (nodesFrom w i 0)) = rw (length-nodes w i 0, ← ended .counted) (hd .is) in
         let f : Free S b (nodesFrom w i 0) = record { zero = λ x a c y. cl .each x a (omega arith) .zero (ended .marked .free x a y) } in
         let v = found-valid o few long (record { walks = going-end es (ended .going); once = ended .marked .once; header = q; free = f }) in
         Reads.tree (v .valid) (v .nodes) (sym (length-nodes w i 0) ∙ ap length (sym (v .nodes)) ∙ size-preorder (v .valid .tree))

@@ -12,7 +12,7 @@ use Rattle.base.specs.Bytes.{byteAt, get16, get32, get32-two}
 use Rattle.grammar.specs.Grammar.{TerminalOf}
 use Rattle.grammar.specs.Rows.{leftAt}
 use Rattle.grammar.specs.RowRules.{bodyAt}
-use Rattle.trees.specs.Area.{slotSize, tagSpace}
+use Rattle.trees.specs.Area.{slotSize, symbolPlace, parentPlace, sparePlace, tagSpace}
 use Rattle.trees.specs.Nodes.{leafOf}
 use Rattle.trees.specs.Listing.{nodeOf, Put}
 use Rattle.walks.specs.declared.Kids.{Kids}
@@ -35,7 +35,7 @@ pub record Hangs (b : List ℕ) (s par body : ℕ) : Type 0 where
   pub bare : body ≡ 0 → firstIn b s ≡ 0
 
 -- its symbol and its production as a two-byte number
-both-in : (b : List ℕ) (s v : ℕ) → v ≡ get16 b (slotSize * s + 2) → Known b → (v % 256 ≡ symbolIn b s) × (v / 256 ≡ productionIn b s)
+both-in : (b : List ℕ) (s v : ℕ) → v ≡ get16 b (slotSize * s + symbolPlace) → Known b → (v % 256 ≡ symbolIn b s) × (v / 256 ≡ productionIn b s)
 both-in b s v e k =
     let q : slotSize * s + 2 + 1 ≡ slotSize * s + 3 = omega arith in
     let o = ap (byteAt b) q in
@@ -50,17 +50,17 @@ module _ (b : List ℕ) (s x : ℕ) where
   pub looks-mark : (v : ℕ) → v ≡ get16 b (slotSize * s) → (v ≡ 0x444E → ⊥) → Tells (Looks b s x) false
   looks-mark v e n = tells-no (λ h. let f = fields b s (h .used .is) in n (omega (arith, e, f .mark, f .mark')))
 
-  pub looks-spare : (v : ℕ) → v ≡ get16 b (slotSize * s + 14) → (v ≡ 0 → ⊥) → Tells (Looks b s x) false
+  pub looks-spare : (v : ℕ) → v ≡ get16 b (slotSize * s + sparePlace) → (v ≡ 0 → ⊥) → Tells (Looks b s x) false
   looks-spare v e n =
       let q : slotSize * s + 14 + 1 ≡ slotSize * s + 15 = omega arith in
       let o = ap (byteAt b) q in
       tells-no (λ h. let f = fields b s (h .used .is) in n (omega (arith, e, o, f .spare, f .spare')))
 
-  pub looks-symbol : (v : ℕ) → Known b → v ≡ get16 b (slotSize * s + 2) → (v % 256 ≡ x → ⊥) → Tells (Looks b s x) false
+  pub looks-symbol : (v : ℕ) → Known b → v ≡ get16 b (slotSize * s + symbolPlace) → (v % 256 ≡ x → ⊥) → Tells (Looks b s x) false
   looks-symbol v k e n = tells-no (λ h. n (both-in b s v e k .0 ∙ h .symbol))
 
-  pub looks-yes : (u v y : ℕ) → Known b → slotSize * s + slotSize ≤ length b → u ≡ get16 b (slotSize * s) → u ≡ 0x444E → v ≡ get16 b (slotSize * s + 14) → v ≡ 0
-      → y ≡ get16 b (slotSize * s + 2) → y % 256 ≡ x → Tells (Looks b s x) true
+  pub looks-yes : (u v y : ℕ) → Known b → slotSize * s + slotSize ≤ length b → u ≡ get16 b (slotSize * s) → u ≡ 0x444E → v ≡ get16 b (slotSize * s + sparePlace) → v ≡ 0
+      → y ≡ get16 b (slotSize * s + symbolPlace) → y % 256 ≡ x → Tells (Looks b s x) true
   looks-yes u v y k l eu u' ev v' ey y' =
       let q : slotSize * s + 14 + 1 ≡ slotSize * s + 15 = omega arith in
       let o = ap (byteAt b) q in
@@ -74,15 +74,15 @@ module _ (b : List ℕ) (s x : ℕ) where
 pub ruleset looking = (looks-mark, looks-spare)
 
 module _ (b : List ℕ) (s par body : ℕ) where
-  whole : parentIn b s + 65536 * firstIn b s ≡ get32 b (slotSize * s + 4)
+  whole : parentIn b s + 65536 * firstIn b s ≡ get32 b (slotSize * s + parentPlace)
   whole =
       let q : slotSize * s + 6 ≡ slotSize * s + 4 + 2 = omega arith in
       get32-two b (slotSize * s + 4) (parentIn b s) (firstIn b s) refl (ap (λ (i : ℕ). get16 b i) q)
 
-  pub hangs-bare : (u : ℕ) → u ≡ get32 b (slotSize * s + 4) → body ≡ 0 → par < 65536 → u ≡ par → Tells (Hangs b s par body) true
+  pub hangs-bare : (u : ℕ) → u ≡ get32 b (slotSize * s + parentPlace) → body ≡ 0 → par < 65536 → u ≡ par → Tells (Hangs b s par body) true
   hangs-bare u e z l o = tells-yes (record { parent = omega (arith, e, o, whole); bare = λ _. omega (arith, e, o, whole) })
 
-  pub hangs-not : (u : ℕ) → u ≡ get32 b (slotSize * s + 4) → body ≡ 0 → (u ≡ par → ⊥) → Tells (Hangs b s par body) false
+  pub hangs-not : (u : ℕ) → u ≡ get32 b (slotSize * s + parentPlace) → body ≡ 0 → (u ≡ par → ⊥) → Tells (Hangs b s par body) false
   hangs-not u e z n = tells-no (λ h. n (omega (arith, e, whole, h .parent, h .bare z)))
 
   pub hangs-below : (u : ℕ) → u ≡ parentIn b s → (body ≡ 0 → ⊥) → u ≡ par → Tells (Hangs b s par body) true
@@ -172,7 +172,7 @@ module _ (rows : List ℕ) (t count S : ℕ) (b : List ℕ) (s par x : ℕ) (w :
     pub visited-marked : (byteAt w (at + s) ≡ 0 → ⊥) → Visited rows t count S b s par x w i w Unfit
     visited-marked n = Visited.marked l (λ z. n (rw ea z))
 
-    module _ (v g : ℕ) (known : Known b) (ev : v ≡ get16 b (slotSize * s + 2)) (eg : g ≡ tagIn b s) (r : Kids) (k : Kin rows t count x (v / 256) g r) where
+    module _ (v g : ℕ) (known : Known b) (ev : v ≡ get16 b (slotSize * s + symbolPlace)) (eg : g ≡ tagIn b s) (r : Kids) (k : Kin rows t count x (v / 256) g r) where
       ep : v / 256 ≡ productionIn b s
       ep = both-in b s v ev known .1
 

@@ -10,9 +10,9 @@ use Rattle.base.specs.Blocks.{zeros}
 use Rattle.grammar.specs.Each.{Each}
 use Rattle.grammar.specs.Grammar.{Grammar}
 use Rattle.grammar.specs.Forest.{Forest, size, yield, Derives}
-use Rattle.trees.specs.Area.{tokensPlace, slotSize, maxSlots, areaSize, headerBytes, slotAt, top, slots, Distinct, Linked, Area, Valid}
+use Rattle.trees.specs.Area.{rootPlace, usedPlace, tokensPlace, slotSize, maxSlots, areaSize, headerBytes, slotAt, top, slots, Distinct, Linked, Area, Valid}
 use Rattle.trees.specs.Members.{pigeon}
-use Rattle.trees.specs.Nodes.{Node, preorder, leafOf, no-leaf}
+use Rattle.trees.specs.Nodes.{Node, preorder, leafOf, no-leaf, size-preorder}
 use Rattle.trees.specs.Spread.{slotsOf, slots-append, length-slots}
 use Rattle.trees.specs.Slots.{slot-byte}
 use Rattle.walks.specs.Frames.{Frame, frame, Within, Walks, Grown, walks-grown, linked-walks, linked-one, rule-positive, top-small}
@@ -26,12 +26,7 @@ pub leaves-append : (es fs : List Node) → leafCount (es ++ fs) ≡ leafCount e
 leaves-append [] fs = omega arith
 leaves-append (e ∷ es) fs = omega (arith, leaves-append es fs)
 
--- ---- the nodes of a forest: how many, in which slots, and how many leaves
-
-pub size-preorder : (F : Forest) → length (preorder F) ≡ size F
-size-preorder Forest.nil = refl
-size-preorder (Forest.leaf s a g r) = ap suc (size-preorder r)
-size-preorder (Forest.node s M p k r) = omega (arith, length-append (preorder k) (preorder r), size-preorder k, size-preorder r)
+-- ---- the nodes of a forest: in which slots, and how many leaves
 
 slots-preorder : (F : Forest) → slotsOf (preorder F) ≡ slots F
 slots-preorder Forest.nil = refl
@@ -56,8 +51,8 @@ leaves-few (e ∷ es) = omega (arith, few (e .production), leaves-few es)
 
 -- the header says this root, so many nodes and so many tokens
 pub record Header (b : List ℕ) (r n k : ℕ) : Type 0 where
-  pub root : get16 b 2 ≡ r
-  pub used : get16 b 4 ≡ n
+  pub root : get16 b rootPlace ≡ r
+  pub used : get16 b usedPlace ≡ n
   pub tokens : get16 b tokensPlace ≡ k
 
 pub header-says : (b : List ℕ) {root used tokens : ℕ} → root < 65536 → used < 65536 → tokens < 65536 → slotAt b 0 ≡ headerBytes root used tokens → Header b root used tokens
@@ -73,7 +68,7 @@ header-says b {root} {used} {tokens} r u t h =
 -- ---- the walk from the root
 
 abbrev pub rootFrame : Grammar → List ℕ → Frame
-rootFrame G b = frame (get16 b 2) 0 (G .start ∷ [])
+rootFrame G b = frame (get16 b rootPlace) 0 (G .start ∷ [])
 
 -- the slots that were not visited are zero
 pub record Free (S : ℕ) (b : List ℕ) (es : List Node) : Type 0 where
@@ -83,7 +78,7 @@ pub record Free (S : ℕ) (b : List ℕ) (es : List Node) : Type 0 where
 pub record Found (G : Grammar) (S : ℕ) (b : List ℕ) (es : List Node) : Type 0 where
   pub walks : Walks G S b (rootFrame G b ∷ []) es
   pub once : Distinct (slotsOf es)
-  pub header : slotAt b 0 ≡ headerBytes (get16 b 2) (length es) (leafCount es)
+  pub header : slotAt b 0 ≡ headerBytes (get16 b rootPlace) (length es) (leafCount es)
   pub free : Free S b es
 
 -- a valid tree with these nodes
@@ -95,7 +90,7 @@ module _ {G : Grammar} {S : ℕ} {b : List ℕ} where
   pub found-valid : {es : List Node} → 1 ≤ S → S ≤ maxSlots → length b ≡ areaSize S → Found G S b es → TreeOf G S b es
   found-valid {es} o m l h = go (walks-grown (h .walks))
     where
-      area : (F : Forest) → Linked b 0 F → Derives G (G .start ∷ []) F → top F ≡ get16 b 2 → Each (Within S) (slots F) → es ≡ preorder F → Area S F b
+      area : (F : Forest) → Linked b 0 F → Derives G (G .start ∷ []) F → top F ≡ get16 b rootPlace → Each (Within S) (slots F) → es ≡ preorder F → Area S F b
       area F k d t w e =
           let q : slotsOf es ≡ slots F = ap slotsOf e ∙ slots-preorder F in
           let n : length es ≡ size F = ap length e ∙ size-preorder F in
@@ -128,7 +123,7 @@ module _ {G : Grammar} {S : ℕ} {b : List ℕ} where
   valid-found v =
       let F = v .tree in
       let q = slots-preorder F in
-      let t : top F ≡ get16 b 2 = sym (valid-header v .root) in
+      let t : top F ≡ get16 b rootPlace = sym (valid-header v .root) in
       record {
         walks = rw (append-nil (preorder F), t) at (linked-walks (v .few) (v .area .linked) (v .derives) (v .area .within) Walks.nil);
         once = rw q (v .area .once);

@@ -6,28 +6,28 @@ use lib.ListN.{length}
 use native.Mathlib.Omega.{arith}
 use Rattle.base.specs.Bytes.{byteAt, get16, leBytes, get32}
 use Rattle.base.specs.Blocks.{zeros}
-use Rattle.trees.specs.Area.{slotSize, tagSpace, slotBytes, slotAt}
+use Rattle.trees.specs.Area.{slotSize, symbolPlace, productionPlace, parentPlace, firstPlace, nextPlace, tagPlace, tagSpace, slotBytes, slotAt}
 use Rattle.trees.specs.Slots.{slot-byte, slot-is}
 use borrow.Author.Count.{below-more}
 
 -- of slot s: its symbol, production, parent, first child, next sibling and tag
 abbrev pub symbolIn : List ℕ → ℕ → ℕ
-symbolIn b s = byteAt b (slotSize * s + 2)
+symbolIn b s = byteAt b (slotSize * s + symbolPlace)
 
 abbrev pub productionIn : List ℕ → ℕ → ℕ
-productionIn b s = byteAt b (slotSize * s + 3)
+productionIn b s = byteAt b (slotSize * s + productionPlace)
 
 abbrev pub parentIn : List ℕ → ℕ → ℕ
-parentIn b s = get16 b (slotSize * s + 4)
+parentIn b s = get16 b (slotSize * s + parentPlace)
 
 abbrev pub firstIn : List ℕ → ℕ → ℕ
-firstIn b s = get16 b (slotSize * s + 6)
+firstIn b s = get16 b (slotSize * s + firstPlace)
 
 abbrev pub nextIn : List ℕ → ℕ → ℕ
-nextIn b s = get16 b (slotSize * s + 8)
+nextIn b s = get16 b (slotSize * s + nextPlace)
 
 abbrev pub tagIn : List ℕ → ℕ → ℕ
-tagIn b s = get32 b (slotSize * s + 10)
+tagIn b s = get32 b (slotSize * s + tagPlace)
 
 -- slot s has these fields
 pub record Fields (b : List ℕ) (s x p par f n g : ℕ) : Type 0 where

@@ -1,12 +1,14 @@
 -- The work area of a walk. Behind the room for the nodes stand the frames, twelve bytes for each: the first sibling's slot and the parent's (2 each) and the siblings' symbols as one
 -- number (8). Behind room for a frame more than there are slots stand the marks, a byte for each slot, slot 0 too.
-use Prim.Native.Nat.{ℕ, suc, _+_, _-_, _*_, _/_, _%_, _≤_, _<_}
+use Prim.Native.Nat.{ℕ, suc, _+_, _-_, _*_, _≤_, _<_}
 use mathlib.Core.Path.{_≡_, sym, ap, _∙_}
 use mathlib.Core.List.{List, [], _∷_, _++_}
 use lib.ListN.{length, set, take, drop, length-take, length-drop}
 use lib.Seq.{getD-take, getD-drop, take-set-lt, drop-set-add, take-at, drop-at, length-take-le, ext-getD}
 use native.Mathlib.Omega.{arith}
-use Rattle.base.specs.Bytes.{byteAt, get16, get32, put16, length-put16, get-put16, byte-put16, get32-two}
+use mathlib.Core.Logic.{inl}
+use Rattle.base.specs.Bytes.{byteAt, get16, put16, get-put16}
+use Rattle.base.specs.Written.{Only, only-word, only-wider, only-then, word-kept, get64, get64-same, Eight}
 use Rattle.base.specs.Blocks.{zeros, length-zeros}
 use Rattle.trees.specs.Coded.{nodeSize}
 use Rattle.walks.specs.Digits.{Digits}
@@ -14,6 +16,13 @@ use Rattle.walks.specs.Frames.{Frame, frame}
 
 abbrev pub frameSize : ℕ
 frameSize = 12
+
+-- where a frame has the parent's slot, and the symbols
+abbrev pub frameParent : ℕ
+frameParent = 2
+
+abbrev pub frameRest : ℕ
+frameRest = 4
 
 -- where frame k stands
 abbrev pub placeOf : ℕ → ℕ → ℕ
@@ -23,86 +32,19 @@ placeOf S k = nodeSize * S + frameSize * k
 abbrev pub marksAt : ℕ → ℕ
 marksAt S = placeOf S (S + 1)
 
-abbrev pub workSize : ℕ → ℕ
-workSize S = marksAt S + (S + 1)
-
--- ---- numbers of eight bytes
-
--- the eight-byte number at a place; shut, so that only its laws are used
-unfoldable pub get64 : List ℕ → ℕ → ℕ
-get64 w at = get32 w at + 4294967296 * get32 w (at + 4)
-
-pub get64-two : (w : List ℕ) (at u v : ℕ) → u ≡ get32 w at → v ≡ get32 w (at + 4) → u + 4294967296 * v ≡ get64 w at
-unfolding get64
-get64-two w at u v e f = omega arith
-
-get64-same : (w w' : List ℕ) (at : ℕ) → ((i : ℕ) → at ≤ i → i < at + 8 → byteAt w' i ≡ byteAt w i) → get64 w' at ≡ get64 w at
-unfolding get64
-get64-same w w' at h =
-    let a0 = h at (omega arith) (omega arith) in
-    let a1 = h (at + 1) (omega arith) (omega arith) in
-    let a2 = h (at + 2) (omega arith) (omega arith) in
-    let a3 = h (at + 3) (omega arith) (omega arith) in
-    let a4 = h (at + 4) (omega arith) (omega arith) in
-    let a5 = h (at + 4 + 1) (omega arith) (omega arith) in
-    let a6 = h (at + 4 + 2) (omega arith) (omega arith) in
-    let a7 = h (at + 4 + 3) (omega arith) (omega arith) in
-    omega arith
-
--- w' is w with v as the eight-byte number at a place
-pub record Long (w : List ℕ) (at v : ℕ) (w' : List ℕ) : Type 0 where
-  pub long : length w' ≡ length w
-  pub is : get64 w' at ≡ v
-  pub before : (i : ℕ) → i < at → byteAt w' i ≡ byteAt w i
-  pub behind : (i : ℕ) → at + 8 ≤ i → byteAt w' i ≡ byteAt w i
-
--- w' is w with v as the two-byte number at a place
-record Short (w : List ℕ) (at v : ℕ) (w' : List ℕ) : Type 0 where
-  long : length w' ≡ length w
-  is : get16 w' at ≡ v
-  other : (i : ℕ) → (i ≡ at → ⊥) → (i ≡ at + 1 → ⊥) → byteAt w' i ≡ byteAt w i
-
-short-put : (w w' : List ℕ) (at v : ℕ) → at + 1 < length w → w' ≡ put16 w at v → Short w at v w'
-short-put w w' at v l e = rw e (record { long = length-put16 w at v; is = get-put16 w at v l; other = byte-put16 w at v })
-
-short-before : {w w' : List ℕ} {at v : ℕ} → Short w at v w' → (p : ℕ) → p + 1 < at → get16 w' p ≡ get16 w p
-short-before h p l =
-    let a = h .other p (omega arith) (omega arith) in
-    let c = h .other (p + 1) (omega arith) (omega arith) in
-    omega arith
-
--- as four two-byte numbers
-pub long-put : (w w1 w2 w3 w4 : List ℕ) (at v : ℕ) → at + 8 ≤ length w → v < 18446744073709551616 → w1 ≡ put16 w at (v % 65536) → w2 ≡ put16 w1 (at + 2) (v / 65536 % 65536)
-    → w3 ≡ put16 w2 (at + 4) (v / 65536 / 65536 % 65536) → w4 ≡ put16 w3 (at + 6) (v / 65536 / 65536 / 65536) → Long w at v w4
-unfolding get64
-long-put w w1 w2 w3 w4 at v l o e1 e2 e3 e4 =
-    let h1 = short-put w w1 at (v % 65536) (omega arith) e1 in
-    let h2 = short-put w1 w2 (at + 2) (v / 65536 % 65536) (omega (arith, h1 .long)) e2 in
-    let h3 = short-put w2 w3 (at + 4) (v / 65536 / 65536 % 65536) (omega (arith, h1 .long, h2 .long)) e3 in
-    let h4 = short-put w3 w4 (at + 6) (v / 65536 / 65536 / 65536) (omega (arith, h1 .long, h2 .long, h3 .long)) e4 in
-    let g1 = short-before h4 at (omega arith) ∙ short-before h3 at (omega arith) ∙ short-before h2 at (omega arith) ∙ h1 .is in
-    let g2 = short-before h4 (at + 2) (omega arith) ∙ short-before h3 (at + 2) (omega arith) ∙ h2 .is in
-    let g3 = short-before h4 (at + 4) (omega arith) ∙ h3 .is in
-    let g4 : get16 w4 (at + 4 + 2) ≡ v / 65536 / 65536 / 65536 = let q : at + 4 + 2 ≡ at + 6 = omega arith in rw q (h4 .is) in
-    let low = get32-two w4 at (v % 65536) (v / 65536 % 65536) (sym g1) (sym g2) in
-    let high = get32-two w4 (at + 4) (v / 65536 / 65536 % 65536) (v / 65536 / 65536 / 65536) (sym g3) (sym g4) in
-    record {
-      long = h4 .long ∙ h3 .long ∙ h2 .long ∙ h1 .long;
-      is = omega (arith, low, high, o);
-      before = λ i z. h4 .other i (omega arith) (omega arith) ∙ h3 .other i (omega arith) (omega arith) ∙ h2 .other i (omega arith) (omega arith) ∙ h1 .other i (omega arith) (omega arith);
-      behind = λ i z. h4 .other i (omega arith) (omega arith) ∙ h3 .other i (omega arith) (omega arith) ∙ h2 .other i (omega arith) (omega arith) ∙ h1 .other i (omega arith) (omega arith);
-    }
+abbrev pub walkSize : ℕ → ℕ
+walkSize S = marksAt S + (S + 1)
 
 -- ---- the frames
 
 -- the symbols in the frame at a place
 abbrev pub restAt : List ℕ → ℕ → ℕ
-restAt w at = get64 w (at + 4)
+restAt w at = get64 w (at + frameRest)
 
 -- the last k frames, the last first
 pub data Held (w : List ℕ) (S : ℕ) : ℕ → List Frame → Type 0 where
   nil : Held w S 0 []
-  cons : {k s par : ℕ} {ys : List ℕ} {fs : List Frame} → s ≡ get16 w (placeOf S k) → par ≡ get16 w (placeOf S k + 2) → Digits ys (restAt w (placeOf S k)) → Held w S k fs
+  cons : {k s par : ℕ} {ys : List ℕ} {fs : List Frame} → s ≡ get16 w (placeOf S k) → par ≡ get16 w (placeOf S k + frameParent) → Digits ys (restAt w (placeOf S k)) → Held w S k fs
       → Held w S (suc k) (frame s par ys ∷ fs)
 
 -- frames of the same bytes
@@ -115,35 +57,31 @@ held-same {w} {S} w' h (Held.cons {k = k} {s = s} {par = par} {ys = ys} {fs = fs
     let a2 = h (at + 2) (omega arith) (omega arith) in
     let a3 = h (at + 2 + 1) (omega arith) (omega arith) in
     let i : s ≡ get16 w' at = omega (arith, e, a0, a1) in
-    let j : par ≡ get16 w' (at + 2) = omega (arith, e', a2, a3) in
-    let q : restAt w' at ≡ restAt w at = get64-same w w' (at + 4) (λ i l m. h i (omega arith) (omega arith)) in
+    let j : par ≡ get16 w' (at + frameParent) = omega (arith, e', a2, a3) in
+    let q : restAt w' at ≡ restAt w at = get64-same w w' (at + frameRest) (λ i l m. h i (omega arith) (omega arith)) in
     let d' : Digits ys (restAt w' at) = rw q d in
     Held.cons {k = k} i j d' (held-same w' (λ i l m. h i l (omega arith)) r)
 
 -- w' is w with a frame at a place
 pub record Framed (w : List ℕ) (at s par rest : ℕ) (w' : List ℕ) : Type 0 where
-  pub long : length w' ≡ length w
+  pub only : Only at (at + frameSize) w w'
   pub slot : s ≡ get16 w' at
-  pub parent : par ≡ get16 w' (at + 2)
+  pub parent : par ≡ get16 w' (at + frameParent)
   pub symbols : restAt w' at ≡ rest
-  pub before : (i : ℕ) → i < at → byteAt w' i ≡ byteAt w i
-  pub behind : (i : ℕ) → at + frameSize ≤ i → byteAt w' i ≡ byteAt w i
 
-pub framed-put : (w w1 w2 w3 : List ℕ) (at s par rest : ℕ) → at + frameSize ≤ length w → w1 ≡ put16 w at s → w2 ≡ put16 w1 (at + 2) par → Long w2 (at + 4) rest w3 → Framed w at s par rest w3
+pub framed-put : (w w1 w2 w3 : List ℕ) (at s par rest : ℕ) → at + frameSize ≤ length w → w1 ≡ put16 w at s → w2 ≡ put16 w1 (at + frameParent) par → Eight w2 (at + frameRest) rest w3
+    → Framed w at s par rest w3
 framed-put w w1 w2 w3 at s par rest l e1 e2 h =
-    let h1 = short-put w w1 at s (omega arith) e1 in
-    let h2 = short-put w1 w2 (at + 2) par (omega (arith, h1 .long)) e2 in
-    let a0 = h .before at (omega arith) in
-    let a1 = h .before (at + 1) (omega arith) in
-    let a2 = h .before (at + 2) (omega arith) in
-    let a3 = h .before (at + 2 + 1) (omega arith) in
+    let h1 : Only at (at + 2) w w1 = rw e1 (only-word w at s) in
+    let h2 : Only (at + frameParent) (at + frameParent + 2) w1 w2 = rw e2 (only-word w1 (at + frameParent) par) in
+    let i1 : get16 w1 at ≡ s = rw e1 (get-put16 w at s (omega arith)) in
+    let i2 : get16 w2 (at + frameParent) ≡ par = rw e2 (get-put16 w1 (at + frameParent) par (omega (arith, h1 .long))) in
     record {
-      long = h .long ∙ h2 .long ∙ h1 .long;
-      slot = omega (arith, a0, a1, short-before h2 at (omega arith), h1 .is);
-      parent = omega (arith, a2, a3, h2 .is);
+      only = only-then (only-then (only-wider at (at + frameSize) (omega arith) (omega arith) h1) (only-wider at (at + frameSize) (omega arith) (omega arith) h2))
+          (only-wider at (at + frameSize) (omega arith) (omega arith) (h .only));
+      slot = sym (word-kept (h .only) at (inl (omega arith)) ∙ word-kept h2 at (inl (omega arith)) ∙ i1);
+      parent = sym (word-kept (h .only) (at + frameParent) (inl (omega arith)) ∙ i2);
       symbols = h .is;
-      before = λ i z. h .before i (omega arith) ∙ h2 .other i (omega arith) (omega arith) ∙ h1 .other i (omega arith) (omega arith);
-      behind = λ i z. h .behind i (omega arith) ∙ h2 .other i (omega arith) (omega arith) ∙ h1 .other i (omega arith) (omega arith);
     }
 
 -- ---- the marks
@@ -153,7 +91,7 @@ unfoldable pub marksIn : ℕ → List ℕ → List ℕ
 marksIn S w = take (S + 1) (drop (marksAt S) w)
 
 module _ (S : ℕ) (w : List ℕ) where
-  pub length-marks : workSize S ≤ length w → length (marksIn S w) ≡ S + 1
+  pub length-marks : walkSize S ≤ length w → length (marksIn S w) ≡ S + 1
   unfolding marksIn
   length-marks l = length-take-le (S + 1) (drop (marksAt S) w) (simp length-drop (omega arith))
 
@@ -178,7 +116,7 @@ module _ (S : ℕ) (w : List ℕ) where
   marks-part at e = let q : at + S + 1 - at ≡ S + 1 = omega arith in rw (q, e)
 
 -- zeros but for slot 0
-pub marks-fresh : (S : ℕ) (w : List ℕ) (at : ℕ) (b w1 w2 : List ℕ) → at ≡ marksAt S → workSize S ≤ length w → b ≡ zeros (length (take (at + S + 1 - at) (drop at w)))
+pub marks-fresh : (S : ℕ) (w : List ℕ) (at : ℕ) (b w1 w2 : List ℕ) → at ≡ marksAt S → walkSize S ≤ length w → b ≡ zeros (length (take (at + S + 1 - at) (drop at w)))
     → w1 ≡ take at w ++ (b ++ drop (at + S + 1 - at) (drop at w)) → w2 ≡ set w1 at 1 → marksIn S w2 ≡ set (zeros (S + 1)) 0 1
 unfolding marksIn
 marks-fresh S w at b w1 w2 e l eb e1 e2 =

@@ -2,6 +2,7 @@
 use Prim.Native.Nat.{ℕ, zero, suc, _+_, _-_, _*_, _/_, _%_, _≤_, _<_}
 use mathlib.Core.Path.{_≡_, refl, sym, ap, subst, _∙_}
 use mathlib.Core.List.{List, [], _∷_, _++_}
+use mathlib.Core.Logic.{inl, inr}
 use lib.ListN.{length, set}
 use lib.Seq.{getD-set-other}
 use native.Mathlib.Omega.{arith}
@@ -11,7 +12,7 @@ use Rattle.base.specs.Blocks.{zeros}
 use Rattle.grammar.specs.Each.{Each, each-join, each-head}
 use Rattle.grammar.specs.Grammar.{Grammar}
 use Rattle.grammar.specs.Rows.{symbolSpace, grammarIn}
-use Rattle.trees.specs.Area.{slotSize, maxSlots, areaSize}
+use Rattle.trees.specs.Area.{rootPlace, slotSize, maxSlots, areaSize}
 use Rattle.trees.specs.Nodes.{Node}
 use Rattle.trees.specs.Coded.{nodeSize, nodesFrom, length-nodes}
 use Rattle.trees.specs.Spread.{slotsOf, slots-append}
@@ -27,7 +28,7 @@ use Rattle.walks.specs.Going.{Waits, Kept, Turn, Going, Lost, going-star
 use Rattle.walks.specs.Reading.{leafCount, leaves-append, leaves-few, rootFrame}
 use Rattle.walks.specs.Digits.{Digits, Split, digits-none, digits-split, digits-some}
 use Rattle.walks.specs.Judging.{Counts, kin-counts, Meets, Visited}
-use Rattle.walks.specs.Stacked.{placeOf, marksAt, workSize, restAt, Held, held-same, Framed, marksIn, length-marks, mark-at, marks-set, marks-same}
+use Rattle.walks.specs.Stacked.{frameSize, frameParent, placeOf, marksAt, walkSize, restAt, Held, held-same, Framed, marksIn, length-marks, mark-at, marks-set, marks-same}
 use Rattle.walks.specs.Turning.{ahead, behind, written, Bears, stuck-unfit, stuck-behind, stuck-stray, stands-bare, stands-bearing}
 
 -- with this found of a node's children, their symbols are the digits of `body`, and there are so many leaves then
@@ -84,7 +85,7 @@ module _ (rows : List ℕ) (t n start count S : ℕ) (b : List ℕ) where
     through : {i leaves : ℕ} → i ≤ S → Ended w i leaves → Wandered w (Through i leaves)
     astray : Lost gram S b origin → Wandered w Astray
 
-  pub walking-start : (w : List ℕ) (top root : ℕ) → root ≡ get16 b 2 → marksIn S w ≡ set (zeros (S + 1)) 0 1 → top ≡ nodeSize * S → start < symbolSpace
+  pub walking-start : (w : List ℕ) (top root : ℕ) → root ≡ get16 b rootPlace → marksIn S w ≡ set (zeros (S + 1)) 0 1 → top ≡ nodeSize * S → start < symbolSpace
       → Walking w top 0 0 root 0 ((64 + start) % 64) ((64 + start) / 128)
   unfolding grammarIn
   walking-start w top root e z o ls =
@@ -178,7 +179,7 @@ module _ (rows : List ℕ) (t n start count S : ℕ) (b : List ℕ) where
         walking-room =
             omega (arith, marked-room S (marksIn S w) (nodesFrom w i 0) s (h .gone .marked) (h .gone .within) some (en .free), length-slotsOf (nodesFrom w i 0), length-nodes w i 0)
 
-        module _ (lw : workSize S ≤ length w) (few : S ≤ maxSlots) (next : ℕ) (ex : next ≡ nextIn b s) (ln : next < 65536) where
+        module _ (lw : walkSize S ≤ length w) (few : S ≤ maxSlots) (next : ℕ) (ex : next ≡ nextIn b s) (ln : next < 65536) where
           abbrev e : Node
           e = written rows t n start count S b s par x (h .symbols)
 
@@ -235,14 +236,14 @@ module _ (rows : List ℕ) (t n start count S : ℕ) (b : List ℕ) where
                 turned (record { within = some; below = frame 0 s []; behind = g; stands = st; gs = h .frames; later = Kept.left (sym ex ∙ zn) (digits-none (h .digits) zr); sooner = Kept.left refl refl })
 
             -- the last frame
-            pub walking-up : (rest ≡ 0) → next ≡ 0 → (top ≡ nodeSize * S → ⊥) → (s' par' u : ℕ) → s' ≡ get16 w1 (top - 12) → par' ≡ get16 w1 (top - 12 + 2) → par' < 65536 → u ≡ restAt w1 (top - 12)
-                → Walking w1 (top - 12) (i + 1) leaves' s' par' (u % 64) (u / 128)
+            pub walking-up : (rest ≡ 0) → next ≡ 0 → (top ≡ nodeSize * S → ⊥) → (s' par' u : ℕ) → s' ≡ get16 w1 (top - frameSize) → par' ≡ get16 w1 (top - frameSize + frameParent) → par' < 65536 → u ≡ restAt w1 (top - frameSize)
+                → Walking w1 (top - frameSize) (i + 1) leaves' s' par' (u % 64) (u / 128)
             walking-up zr zn nt s' par' u es ep lp eu = go (h .place) (h .few) kept (up zr zn)
               where
-                go : {k : ℕ} {fs : List Frame} → top ≡ placeOf S k → k ≤ i → Held w1 S k fs → Gone w1 (i + 1) leaves' fs → Walking w1 (top - 12) (i + 1) leaves' s' par' (u % 64) (u / 128)
+                go : {k : ℕ} {fs : List Frame} → top ≡ placeOf S k → k ≤ i → Held w1 S k fs → Gone w1 (i + 1) leaves' fs → Walking w1 (top - frameSize) (i + 1) leaves' s' par' (u % 64) (u / 128)
                 go pl fw Held.nil y = absurd (nt (omega (arith, pl)))
                 go pl fw (Held.cons {k = k} {s = s2} {par = p2} {ys = ys} {fs = fs} a c d o) y =
-                    let z : top - 12 ≡ placeOf S k = omega (arith, pl) in
+                    let z : top - frameSize ≡ placeOf S k = omega (arith, pl) in
                     let a' : s2 ≡ s' = a ∙ sym (rw z at es) in
                     let c' : p2 ≡ par' = c ∙ sym (rw z at ep) in
                     let eu' : u ≡ restAt w1 (placeOf S k) = rw z at eu in
@@ -306,7 +307,7 @@ module _ (rows : List ℕ) (t n start count S : ℕ) (b : List ℕ) where
                 }
 
             -- the children, while the siblings behind wait
-            pub walking-push : (rest ≡ 0 → ⊥) → (w2 : List ℕ) → Framed w1 top next par rest w2 → Walking w2 (top + 12) (i + 1) leaves' first s (body % 64) (body / 128)
+            pub walking-push : (rest ≡ 0 → ⊥) → (w2 : List ℕ) → Framed w1 top next par rest w2 → Walking w2 (top + frameSize) (i + 1) leaves' first s (body % 64) (body / 128)
             walking-push nr w2 fr =
                 let z = walking-room in
                 let pl = h .place in
@@ -316,12 +317,12 @@ module _ (rows : List ℕ) (t n start count S : ℕ) (b : List ℕ) where
                 record { within = some; below = under; behind = g; stands = bears .stands; gs = g ∷ h .frames; later = Kept.kept wt; sooner = Kept.kept waits }
                 in
                 let a = turned y in
-                let nodes : nodesFrom w2 (i + 1) 0 ≡ nodesFrom w1 (i + 1) 0 = nodes-kept w1 w2 (i + 1) 0 (λ j c d. fr .before j (omega arith)) in
-                let marks : marksIn S w2 ≡ marksIn S w1 = marks-same S w1 w2 (fr .long) (λ j c. fr .behind j (omega arith)) in
+                let nodes : nodesFrom w2 (i + 1) 0 ≡ nodesFrom w1 (i + 1) 0 = nodes-kept w1 w2 (i + 1) 0 (λ j c d. fr .only .others j (inl (omega arith))) in
+                let marks : marksIn S w2 ≡ marksIn S w1 = marks-same S w1 w2 (fr .only .long) (λ j c. fr .only .others j (inr (omega arith))) in
                 let a' : Gone w2 (i + 1) leaves' (under ∷ g ∷ h .frames) =
                 record { going = rw nodes (a .going); marked = rw (nodes, marks) (a .marked); within = rw nodes (a .within); counted = rw nodes (a .counted) }
                 in
-                let low : Held w2 S (h .k) (h .frames) = held-same w2 (λ j c d. fr .before j (omega arith)) kept in
+                let low : Held w2 S (h .k) (h .frames) = held-same w2 (λ j c d. fr .only .others j (inl (omega arith))) kept in
                 let fr' : Framed w1 (placeOf S (h .k)) next par rest w2 = rw pl at fr in
                 let dg : Digits (h .symbols) (restAt w2 (placeOf S (h .k))) = rw (fr' .symbols) (h .digits) in
                 let up : Held w2 S (suc (h .k)) (g ∷ h .frames) = Held.cons (sym ex ∙ fr' .slot) (fr' .parent) dg low in

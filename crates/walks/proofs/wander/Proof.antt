@@ -2,7 +2,7 @@ use mathlib.Core.Path.{_≡_, refl}
 use mathlib.Core.Logic.{⊎-elim}
 use Prim.Native.Nat.{_-_, _≤_, _%_, _/_}
 use lib.ListN.{length}
-use Rattle.walks.specs.Stacked.{workSize}
+use Rattle.walks.specs.Stacked.{walkSize}
 use Rattle.walks.specs.Walking.{Walking, Taken, taken-leaf, taken-body, walking-start, walking-leaves, walking-fits, walking-room, walking-next, walking-up, walking-end, walking-down, walking-push, wandered-unfit, wandered-behind}
 use borrow.Author.Needs.{needs}
 use native.Mathlib.Omega.{arith}
@@ -10,7 +10,7 @@ use Rattle.walks.proofs.wander.Statement.{statement}
 use Rattle.walks.proofs.wander.Tie as tie
 
 abbrev Inv-loop : tie.InvT-loop
-Inv-loop area slots rows words t n start count w₀ bottom top₀ i₀ leaves₀ s₀ par₀ due₀ w top i leaves s par due = (workSize slots ≤ length w) × (length w ≡ length w₀) × Walking rows t n start count slots area w top i leaves s par (due % 64) (due / 128)
+Inv-loop area slots rows words t n start count w₀ bottom top₀ i₀ leaves₀ s₀ par₀ due₀ w top i leaves s par due = (walkSize slots ≤ length w) × (length w ≡ length w₀) × Walking rows t n start count slots area w top i leaves s par (due % 64) (due / 128)
 
 abbrev μ-loop : tie.MeasureT-loop
 μ-loop area slots rows words t n start count w₀ bottom top₀ i₀ leaves₀ s₀ par₀ due₀ w top i leaves s par due = slots - i

@@ -1,7 +1,7 @@
 use Rattle.walks.specs.Closing.{run-none, run-visited, run-four, run-zero}
 use borrow.Author.Needs.{needs}
-use Rattle.walks.proofs.run_of.Statement.{statement}
-use Rattle.walks.proofs.run_of.Tie as tie
+use Rattle.walks.proofs.closing.run_of.Statement.{statement}
+use Rattle.walks.proofs.closing.run_of.Tie as tie
 
 add-if1 : tie.Need-add-if1
 add-if1 c = search needs

@@ -3,8 +3,8 @@ use mathlib.Core.Path.{_≡_}
 use Rattle.grammar.specs.Rows.{bodySpace, lengthAt}
 use Rattle.walks.specs.Digits.{Tail, tail-none, tail-low, tail-more, tail-all}
 use borrow.Author.Needs.{needs}
-use Rattle.walks.proofs.word_of.Statement.{statement}
-use Rattle.walks.proofs.word_of.Tie as tie
+use Rattle.walks.proofs.words.word_of.Statement.{statement}
+use Rattle.walks.proofs.words.word_of.Tie as tie
 
 abbrev Inv-loop : tie.InvT-loop
 Inv-loop rows q v₀ j₀ v j = (j₀ ≡ lengthAt rows q) × (j₀ < bodySpace) × (j ≤ j₀) × Tail rows q j₀ j v

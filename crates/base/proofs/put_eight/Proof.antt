@@ -1,7 +1,7 @@
-use Rattle.walks.specs.Stacked.{long-put}
+use Rattle.base.specs.Written.{eight-put}
 use borrow.Author.Needs.{needs}
-use Rattle.walks.proofs.put_eight.Statement.{statement}
-use Rattle.walks.proofs.put_eight.Tie as tie
+use Rattle.base.proofs.put_eight.Statement.{statement}
+use Rattle.base.proofs.put_eight.Tie as tie
 
 put-two-requires : tie.Need-put-two-requires
 put-two-requires c κs = search needs
@@ -28,7 +28,7 @@ same-length : tie.Need-same-length
 same-length c = search needs
 
 returns : tie.Need-returns
-returns c = long-put _ _ _ _ _ _ _ (search needs) (search needs) (c .before .before .before .before .before .before .before .before .before .before .before .before .before .before .put-two .ensures) (c .before .before .before .before .before .before .before .before .before .before .put-two2 .ensures) (c .before .before .before .before .before .before .put-two3 .ensures) (c .before .before .put-two4 .ensures)
+returns c = eight-put _ _ _ _ _ _ _ (search needs) (search needs) (c .before .before .before .before .before .before .before .before .before .before .before .before .before .before .put-two .ensures) (c .before .before .before .before .before .before .before .before .before .before .put-two2 .ensures) (c .before .before .before .before .before .before .put-two3 .ensures) (c .before .before .put-two4 .ensures)
 
 pub put-eight-spec : {M : Type 1} → statement M
 put-eight-spec =

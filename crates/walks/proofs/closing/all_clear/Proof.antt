@@ -4,8 +4,8 @@ use lib.ListN.{length}
 use Rattle.trees.specs.Area.{maxSlots, areaSize}
 use Rattle.walks.specs.Closing.{ClearTo, clear-none, clear-more, clear-not, clear-all, clear-run}
 use borrow.Author.Needs.{needs}
-use Rattle.walks.proofs.all_clear.Statement.{statement}
-use Rattle.walks.proofs.all_clear.Tie as tie
+use Rattle.walks.proofs.closing.all_clear.Statement.{statement}
+use Rattle.walks.proofs.closing.all_clear.Tie as tie
 
 abbrev Inv-loop : tie.InvT-loop
 Inv-loop area marks slots s₀ s = (slots ≤ maxSlots) × (length area ≡ areaSize slots) × (slots < length marks) × (1 ≤ s) × (s ≤ slots + 1) × ClearTo area marks s

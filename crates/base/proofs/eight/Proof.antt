@@ -1,7 +1,7 @@
-use Rattle.walks.specs.Stacked.{get64-two}
+use Rattle.base.specs.Written.{get64-two}
 use borrow.Author.Needs.{needs}
-use Rattle.walks.proofs.eight.Statement.{statement}
-use Rattle.walks.proofs.eight.Tie as tie
+use Rattle.base.proofs.eight.Statement.{statement}
+use Rattle.base.proofs.eight.Tie as tie
 
 four-requires : tie.Need-four-requires
 four-requires c κs = search needs

@@ -3,8 +3,8 @@ use mathlib.Core.Path.{_≡_}
 use lib.ListN.{length, length-set}
 use Rattle.walks.specs.Words.{wordCount, Worded, worded-none, worded-more, worded-full, worded-all}
 use borrow.Author.Needs.{needs}
-use Rattle.walks.proofs.fill_words.Statement.{statement}
-use Rattle.walks.proofs.fill_words.Tie as tie
+use Rattle.walks.proofs.words.fill_words.Statement.{statement}
+use Rattle.walks.proofs.words.fill_words.Tie as tie
 
 abbrev Inv-loop : tie.InvT-loop
 Inv-loop rows count words₀ q₀ words q = (length words ≡ wordCount) × (length words ≡ length words₀) × (q ≤ count) × Worded rows q words

@@ -1,7 +1,7 @@
 use Rattle.walks.specs.Closing.{clear-visited, clear-told}
 use borrow.Author.Needs.{needs}
-use Rattle.walks.proofs.clear.Statement.{statement}
-use Rattle.walks.proofs.clear.Tie as tie
+use Rattle.walks.proofs.closing.clear.Statement.{statement}
+use Rattle.walks.proofs.closing.clear.Tie as tie
 
 shared-slice-read-if1 : tie.Need-shared-slice-read-if1
 shared-slice-read-if1 c = search needs

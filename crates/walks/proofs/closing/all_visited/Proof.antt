@@ -3,8 +3,8 @@ use mathlib.Core.Path.{_≡_}
 use lib.ListN.{length}
 use Rattle.walks.specs.Closing.{visitedRun, VisitedFrom, visited-none, visited-more, visited-all, visited-not}
 use borrow.Author.Needs.{needs}
-use Rattle.walks.proofs.all_visited.Statement.{statement}
-use Rattle.walks.proofs.all_visited.Tie as tie
+use Rattle.walks.proofs.closing.all_visited.Statement.{statement}
+use Rattle.walks.proofs.closing.all_visited.Tie as tie
 
 abbrev Inv-loop : tie.InvT-loop
 Inv-loop marks s k₀ k = (s + visitedRun ≤ length marks) × (k ≤ visitedRun) × (k % 8 ≡ 0) × VisitedFrom marks s k

@@ -1,8 +1,8 @@
 use Rattle.walks.specs.Closing.{heading, heads-told}
 use native.Mathlib.Omega.{arith}
 use borrow.Author.Needs.{needs}
-use Rattle.walks.proofs.heads.Statement.{statement}
-use Rattle.walks.proofs.heads.Tie as tie
+use Rattle.walks.proofs.closing.heads.Statement.{statement}
+use Rattle.walks.proofs.closing.heads.Tie as tie
 
 shared-slice-read-if1 : tie.Need-shared-slice-read-if1
 shared-slice-read-if1 c = search needs
