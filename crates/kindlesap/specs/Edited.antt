@@ -19,6 +19,7 @@ use Rattle.walks.specs.Reading.{valid-header}
 use Rattle.plain.specs.Plain.{Verdict, accepted, syntax, noRoom, Parses}
 use Rattle.plain.specs.One.{runs-one}
 use Rattle.plain.specs.Traced.{terminals}
+use Rattle.plain.specs.Viable.{Longest}
 use Rattle.plain.specs.Tokens.{tokenSize, tokenBytes, Sentence, bad-not-sentence, sentence-one}
 use Rattle.edits.specs.Keeping.{Edit, edited, Node, Keeps, Altered}
 use Rattle.edits.specs.Places.{treeSize}
@@ -40,6 +41,7 @@ use Rattle.kindlesap.specs.Judged.{Judged, useless, conflict, fit, Opene
 use Rattle.kindlesap.specs.Parse.{workAreas, Sized, sized-one, Fits, ParseOutcome, stored-parses}
 use Rattle.kindlesap.specs.Parse as parse
 use Rattle.kindlesap.specs.ReadBack.{readCounts, needed, returned, ReadOutcome, read-one}
+use Rattle.kindlesap.specs.Deciding.{Answers, Alike, answers-alike, Answered, answered-exactly, answered-place, fits-answered}
 use Rattle.kindlesap.specs.Edit.{editCounts, Edits, wrong-tables, no-tree, short-work, bad-token, beyond, wrong-syntax, no-room, altered, EditOutcome, tokens-one, altered-parses, same-parse}
 
 -- ---- after an accepted edit
@@ -210,42 +212,7 @@ edit-refused {image} {tables} {tree} {tokens} {work} {place = place} {removed} x
     go (bad-image y) e = refl
     go (good-image i j) e = judged j e
 
--- ---- the plain parse decides
-
--- the reply that a verdict comes to
-pub data Answers : Verdict → Reply → Type 0 where
-  yes : {n : ℕ} {c : Counts} → c .total ≡ n → Answers (accepted n) (Accepted c)
-  nine : {i e : ℕ} → Answers (syntax i e) (Refused (reasons.Syntax i e))
-  ten : Answers noRoom (Refused reasons.NoRoom)
-
-answers-one : {u u' : Verdict} {r : Reply} → Answers u r → Answers u' r → u ≡ u'
-answers-one (Answers.yes e) (Answers.yes e') = ap accepted (sym e ∙ e')
-answers-one Answers.nine Answers.nine = refl
-answers-one Answers.ten Answers.ten = refl
-
--- the same number, place, expected set and total
-pub record Alike (r r' : Reply) : Type 0 where
-  pub number : numberOf r ≡ numberOf r'
-  pub place : placeOf r ≡ placeOf r'
-  pub expected : expectedOf r ≡ expectedOf r'
-  pub total : countsOf r .total ≡ countsOf r' .total
-
-answers-alike : {u : Verdict} {r r' : Reply} → Answers u r → Answers u r' → Alike r r'
-answers-alike (Answers.yes e) (Answers.yes e') = record { number = refl; place = refl; expected = refl; total = e ∙ sym e' }
-answers-alike Answers.nine Answers.nine = record { number = refl; place = refl; expected = refl; total = refl }
-answers-alike Answers.ten Answers.ten = record { number = refl; place = refl; expected = refl; total = refl }
-
--- a verdict, and the reply that it comes to
-record Answered (G : Grammar) (S : ℕ) (w : List Token) (r : Reply) : Type 0 where
-  verdict : Verdict
-  parses : Parses G S w verdict
-  answers : Answers verdict r
-
-answered-exactly : {G : Grammar} {S : ℕ} {w : List Token} {r : Reply} → Prepared G → Answered G S w r → (u : Verdict) → Parses G S w u ↔ Answers u r
-answered-exactly {G} {S} {w} {r} g a u = (
-  λ p. subst (λ (v : Verdict). Answers v r) (runs-one g (a .parses) p) (a .answers),
-  λ b. subst (λ (v : Verdict). Parses G S w v) (answers-one (a .answers) b) (a .parses),
-)
+-- ---- the plain parse of the new sentence decides
 
 module _ {G : Grammar} (g : Prepared G) (place removed : ℕ) {S : ℕ} {image tables tree tokens : List ℕ} {w : List Token} (i : Image image G) (t : Tables G tables) (v : Valid G S tree) (s : Sentence (G .t) tokens w)
     (o : place + removed ≤ length (yield (v .tree))) where
@@ -267,6 +234,11 @@ module _ {G : Grammar} (g : Prepared G) (place removed : ℕ) {S : ℕ} {image t
       → (u : Verdict) → Parses G S sentence u ↔ Answers u r
   edit-plain l h = answered-exactly g (edits-answered l (opened-fit i g (h .opened)))
 
+  -- "With reply 9, its place equals the number of tokens in the longest beginning of the sentence that also begins some sentence of the language"
+  pub edit-place : {work tree' work' : List ℕ} {r : Reply} (k e : ℕ) → workAreas * length tree ≤ length work → EditOutcome image tables tree place removed tokens work r tree' work' → r ≡ Refused (reasons.Syntax k e)
+      → Longest G sentence k
+  edit-place k e l h q = answered-place g (edits-answered l (opened-fit i g (h .opened))) k e q
+
   -- the new sentence has bytes
   pub sentence-bytes : Sentence (G .t) (tokenBytes sentence) sentence
   sentence-bytes =
@@ -277,20 +249,10 @@ module _ {G : Grammar} (g : Prepared G) (place removed : ℕ) {S : ℕ} {image t
 
   -- ---- and those of the call parse
 
-  fits-answered : {room : ℕ} {b area area' : List ℕ} {r : Reply} → Sized S area → workAreas * length area ≤ room → Sentence (G .t) b sentence → Fits tables b room area G r area' → Answered G S sentence r
-  fits-answered z l k (parse.wrong-tables n) = absurd (n t)
-  fits-answered z l k (parse.wrong-area t' n) = absurd (n S z)
-  fits-answered z l k (parse.short-work t' z' l') = absurd (omega (arith, l, l'))
-  fits-answered z l k (parse.bad-token t' z' l' b) = absurd (bad-not-sentence b k)
-  fits-answered z l k (parse.wrong-syntax {i = j} {e = e} t' z' l' k' p) = record { verdict = syntax j e; parses = rw (sized-one z' z, sentence-one k' k) at p; answers = Answers.nine }
-  fits-answered z l k (parse.no-room t' z' l' k' p) = record { verdict = noRoom; parses = rw (sized-one z' z, sentence-one k' k) at p; answers = Answers.ten }
-  fits-answered z l k (parse.stored f t' z' l' k' p a) =
-      record { verdict = accepted (size f); parses = rw (sized-one z' z, sentence-one k' k) at (stored-parses g (z' .some) p); answers = Answers.yes refl }
-
   -- parse of the new sentence's bytes, into any area of that length, has the same number, place, expected set and total
   pub edit-as-parse : {work tree' work' b area room area' room' : List ℕ} {r r' : Reply} → workAreas * length tree ≤ length work → EditOutcome image tables tree place removed tokens work r tree' work'
       → Sized S area → workAreas * length area ≤ length room → Sentence (G .t) b sentence → ParseOutcome image tables b area room r' area' room' → Alike r r'
   edit-as-parse {r' = r'} l h z m k o =
       let a = edits-answered l (opened-fit i g (h .opened)) in
-      let c = fits-answered z m k (opened-fit i g (o .opened)) in
+      let c = fits-answered g t z m k (opened-fit i g (o .opened)) in
       answers-alike (a .answers) (subst (λ (u : Verdict). Answers u r') (runs-one g (c .parses) (a .parses)) (c .answers))

@@ -9,7 +9,8 @@ pub mod Judging
 pub mod Storing
 pub mod Returning
 pub mod Editing
--- Across calls.
+-- Across calls, and demand 2 at the calls.
+pub mod Deciding
 pub mod Across
 pub mod Edited
 pub mod RoundTrip
