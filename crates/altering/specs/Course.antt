@@ -54,7 +54,7 @@ module _ (w b : List ℕ) (a : ℕ) (l : a ≤ length w) where
 pub text-is : (w : List ℕ) (S r : ℕ) {p : List ℕ} → p ≡ take (length w - nodeSize * S) (drop (nodeSize * S) w) → textIn S r p ≡ partOf (drop (nodeSize * (S + S)) w) r
 unfolding textIn
 text-is w S r {p} e =
-    let a : nodeSize * S + tokenSize * r - nodeSize * S ≡ tokenSize * r - 0 = omega arith in
+    let a : nodeSize * S + tokenSize * r - nodeSize * S ≡ tokenSize * r = omega arith in
     let b : nodeSize * S + nodeSize * S ≡ nodeSize * (S + S) = omega arith in
     rw (e, part-tail w (nodeSize * S), drop-drop (nodeSize * S) (nodeSize * S) w, a, b)
 
