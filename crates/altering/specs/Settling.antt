@@ -19,22 +19,21 @@ use Rattle.plain.specs.Traced.{Same}
 use Rattle.plain.specs.Alike.{same-back}
 use Rattle.walks.specs.Reading.{valid-one}
 use Rattle.edits.specs.Keeping.{Edit, edited, Holds, Holding, GivenUp, Altered}
-use Rattle.edits.specs.One.{keeps-one}
+use Rattle.edits.specs.One.{keeps-node, keeps-one}
 use Rattle.edits.specs.Edited.{Trees}
-use Rattle.edits.specs.After.{first}
+use Rattle.edits.specs.Along.{keeps-front, void-along, after-along, before-along}
 use Rattle.edits.specs.Giving.{holding-held, kept-made}
 use Rattle.edits.specs.Counts.{kept-given-up}
 use Rattle.edits.specs.Uniqueness.{keeps-same}
 use Rattle.matching.specs.Measure.{treeIn, Built, built-size, stands, few-tokens}
 use Rattle.matching.specs.Finding.{Numbers}
 use Rattle.matching.specs.Handing.{Few}
-use Rattle.matching.specs.Matching.{Matched, KeepsOne, Fronts, Carries, keeps-node}
+use Rattle.matching.specs.Matching.{Matched, Apart, KeepsOne, Fronts, Carries}
 use Rattle.matching.specs.Through.{Matching}
 use Rattle.keeping.specs.Matched.{slotBy, heldFrom, Old, Fit, length-from, held-get, slot-none, slot-some}
 use Rattle.keeping.specs.Marking.{Keeps as Counts}
 use Rattle.keeping.specs.Filling.{Gives}
 use Rattle.keeping.specs.Result.{gives-spread, gives-same}
-use Rattle.altering.specs.Along.{fronts, carries}
 use Rattle.altering.specs.Treed.{arity-rows, Treed, treed-fits}
 use Rattle.altering.specs.Outcome.{Alters, AltersTree}
 use Rattle.altering.specs.declared.Alteration.the-variants as Alteration
@@ -179,10 +178,12 @@ module _ (rows : List ℕ) (t n start count S : ℕ) (e : Edit) (tree w : List �
       rw old-is u
 
   pub both-carries : Carries e (treeIn rows w o 0) (treeIn rows w k S)
-  both-carries = carries both-trees
+  both-carries a' a q m t f x d (Apart.void l) c o = void-along both-trees x d c o l
+  both-carries a' a q m t f x d (Apart.after l) c o = after-along both-trees x d c o l
+  both-carries a' a q m t f x d (Apart.before l) c o = before-along both-trees x d c o l
 
   pub both-fronts : Fronts e (treeIn rows w o 0) (treeIn rows w k S)
-  both-fronts = fronts both-trees
+  both-fronts a q m t f d l = keeps-front both-trees d l
 
   -- ---- the slots that are held
 
