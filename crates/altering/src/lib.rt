@@ -42,7 +42,7 @@ fn settle(
     requires { ⌜ Doubled (grammarIn (now rows) t n start count) slots place removed inserted (now tree) (nodesIn slots (now work)) o k × (slots ≤ maxSlots) × (length (now tree) ≡ areaSize slots) × (notesSize slots ≤ length (now work)) ⌝ }
     ensures { λ r. ⌜ SettledAll (grammarIn (now (rows .entry)) t n start count) slots place removed inserted (now (tree .entry)) (nodesIn slots (now (work .entry))) o k r (now (tree .exit)) × (r ≤ k) × (r ≤ o) ⌝ }
 {
-    matching::match_nodes(work, o, slots, k, rows, place, removed, inserted);
+    matching::match_nodes(work, slots, o, k, rows, place, removed, inserted);
     let kept = keeping::give_slots(work, slots, k);
     trees::lay_out(&work[trees::NODE_SIZE * slots..], k, rows, slots, tree);
     kept

@@ -61,7 +61,7 @@ fn measure(work: &mut [u8], slots: usize, base: usize, n: usize, rows: &[u8])
 }
 
 // Where the nodes of each token begin among the first n; the number of tokens. The first begin at 0, as the first entry says.
-fn mark_starts(work: &mut [u8], n: usize, slots: usize) -> usize
+fn mark_starts(work: &mut [u8], slots: usize, n: usize) -> usize
     requires { ⌜ (n ≤ slots) × (slots ≤ maxSlots) × (notesSize slots ≤ length (now work)) × (getD (startsIn slots (now work)) 0 0 ≡ 0) ⌝ }
     ensures { λ r. ⌜ Started (nodesIn slots (now (work .entry))) n r (startsIn slots (now (work .exit))) × Viewed slots (now (work .exit)) (nodesIn slots (now (work .entry))) (endsIn slots (now (work .entry))) (widthsIn slots (now (work .entry))) (startsIn slots (now (work .exit))) (matchesIn slots (now (work .entry))) × (r ≤ n) ⌝ }
 {
@@ -116,8 +116,8 @@ fn was(t: usize, place: usize, removed: usize, inserted: usize) -> usize
 // The old node of symbol x, with tokens, that starts with the token that t of the new sentence was, as 1 + its index; 0 where there is none.
 fn source(
     work: &[u8],
-    n: usize,
     slots: usize,
+    n: usize,
     tokens: usize,
     place: usize,
     removed: usize,
@@ -155,7 +155,7 @@ fn hand(work: &mut [u8], slots: usize, c: usize, d: usize)
 }
 
 // The new node at i keeps the slot of the old one at j; their children.
-fn hand_on(work: &mut [u8], n: usize, slots: usize, k: usize, i: usize, j: usize)
+fn hand_on(work: &mut [u8], slots: usize, n: usize, k: usize, i: usize, j: usize)
     requires { ⌜ (n ≤ slots) × (k ≤ slots) × (slots ≤ maxSlots) × (notesSize slots ≤ length (now work)) × Rising (endsIn slots (now work)) 0 n × Rising (endsIn slots (now work)) slots (slots + k) × (slots ≤ i) × (i < slots + k) × (j < n) × Few n (matchesIn slots (now work)) ⌝ }
     ensures { λ _. ⌜ HandedAll (endsIn slots (now (work .entry))) (widthsIn slots (now (work .entry))) slots i j (matchesIn slots (now (work .entry))) (matchesIn slots (now (work .exit))) × Few n (matchesIn slots (now (work .exit))) × Viewed slots (now (work .exit)) (nodesIn slots (now (work .entry))) (endsIn slots (now (work .entry))) (widthsIn slots (now (work .entry))) (startsIn slots (now (work .entry))) (matchesIn slots (now (work .exit))) ⌝ }
 {
@@ -188,8 +188,8 @@ fn carry(work: &mut [u8], slots: usize, i: usize, stop: usize, v: usize)
 // Looks for the old node of the new node i, which starts with token t, if it has tokens; the entry.
 fn seek(
     work: &mut [u8],
-    n: usize,
     slots: usize,
+    n: usize,
     tokens: usize,
     place: usize,
     removed: usize,
@@ -212,7 +212,7 @@ fn seek(
         }
     }
     let x = notes::symbol_in(work, slots, slots + i);
-    let v = source(work, n, slots, tokens, place, removed, inserted, t, x);
+    let v = source(work, slots, n, tokens, place, removed, inserted, t, x);
     notes::set_match(work, slots, i, v);
     v
 }
@@ -239,8 +239,8 @@ fn is_apart(t: usize, width: usize, place: usize, inserted: usize) -> bool
 // it shows that the entries stay below n without knowing so.
 fn reach(
     work: &[u8],
-    n: usize,
     slots: usize,
+    n: usize,
     k: usize,
     place: usize,
     inserted: usize,
@@ -288,8 +288,8 @@ fn step(work: &[u8], slots: usize, i: usize, t: usize) -> Next
 // The new node i, which starts with token t.
 fn turn(
     work: &mut [u8],
-    n: usize,
     slots: usize,
+    n: usize,
     k: usize,
     tokens: usize,
     place: usize,
@@ -304,8 +304,8 @@ fn turn(
     let width = notes::width_of(work, slots, slots + i);
     let v = seek(
         work,
-        n,
         slots,
+        n,
         tokens,
         place,
         removed,
@@ -317,9 +317,9 @@ fn turn(
     if v == 0 {
         return step(work, slots, i, t);
     }
-    let stop = reach(work, n, slots, k, place, inserted, i, t, width, v);
+    let stop = reach(work, slots, n, k, place, inserted, i, t, width, v);
     if stop == 0 {
-        hand_on(work, n, slots, k, slots + i, v - 1);
+        hand_on(work, slots, n, k, slots + i, v - 1);
         return step(work, slots, i, t);
     }
     carry(work, slots, i, stop, v);
@@ -332,8 +332,8 @@ fn turn(
 // Goes through the k new nodes; the root first.
 fn go_through(
     work: &mut [u8],
-    n: usize,
     slots: usize,
+    n: usize,
     k: usize,
     tokens: usize,
     place: usize,
@@ -347,7 +347,7 @@ fn go_through(
     let mut i: usize = 0;
     let mut t: usize = 0;
     while i < k {
-        let next = turn(work, n, slots, k, tokens, place, removed, inserted, i, t);
+        let next = turn(work, slots, n, k, tokens, place, removed, inserted, i, t);
         i = next.node;
         t = next.token;
     }
@@ -356,8 +356,8 @@ fn go_through(
 // For each of the k new nodes 1 + the index of the old node whose slot it keeps, or 0. The old tree's n nodes stand first and the new tree's from node `slots` on.
 pub fn match_nodes(
     work: &mut [u8],
-    n: usize,
     slots: usize,
+    n: usize,
     k: usize,
     rows: &[u8],
     place: usize,
@@ -370,6 +370,6 @@ pub fn match_nodes(
     notes::clear(work, slots);
     measure(work, slots, 0, n, rows);
     measure(work, slots, slots, k, rows);
-    let tokens = mark_starts(work, n, slots);
-    go_through(work, n, slots, k, tokens, place, removed, inserted);
+    let tokens = mark_starts(work, slots, n);
+    go_through(work, slots, n, k, tokens, place, removed, inserted);
 }

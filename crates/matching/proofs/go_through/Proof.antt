@@ -13,11 +13,11 @@ use Rattle.matching.proofs.go_through.Statement.{statement}
 use Rattle.matching.proofs.go_through.Tie as tie
 
 abbrev Inv-loop : tie.InvT-loop
-Inv-loop work₀ n slots k tokens place removed inserted i₀ t₀ work i t = (i ≤ k) × (t ≤ i) × (length work ≡ length work₀) × Through (nodesIn slots work₀) n slots k (endsIn slots work₀) (widthsIn slots work₀) tokens (startsIn slots work₀) place removed inserted i t (matchesIn slots work) × Few n (matchesIn slots work)
+Inv-loop work₀ slots n k tokens place removed inserted i₀ t₀ work i t = (i ≤ k) × (t ≤ i) × (length work ≡ length work₀) × Through (nodesIn slots work₀) n slots k (endsIn slots work₀) (widthsIn slots work₀) tokens (startsIn slots work₀) place removed inserted i t (matchesIn slots work) × Few n (matchesIn slots work)
     × Viewed slots work (nodesIn slots work₀) (endsIn slots work₀) (widthsIn slots work₀) (startsIn slots work₀) (matchesIn slots work)
 
 abbrev μ-loop : tie.MeasureT-loop
-μ-loop work₀ n slots k tokens place removed inserted i₀ t₀ work i t = k - i
+μ-loop work₀ slots n k tokens place removed inserted i₀ t₀ work i t = k - i
 
 hand-requires : tie.Need-hand-requires Inv-loop μ-loop
 hand-requires c κs = search needs
