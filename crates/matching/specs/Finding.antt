@@ -288,6 +288,10 @@ pub data Sourced (w widths : List ℕ) (n T place removed inserted t' x : ℕ) :
   none : ((y t : ℕ) → t < T → Was place removed inserted t' t → leavesTo w y ≡ t → nodeAt w y .symbol ≡ x → (getD widths y 0 ≡ 0 → ⊥) → ⊥)
       → Sourced w widths n T place removed inserted t' x 0
 
+pub sourced-few : {w widths : List ℕ} {n T place removed inserted t' x r : ℕ} → Sourced w widths n T place removed inserted t' x r → r ≤ n
+sourced-few (Sourced.some l was v y z) = omega arith
+sourced-few (Sourced.none f) = omega arith
+
 module _ (w widths : List ℕ) (n T place removed inserted t' x : ℕ) where
   -- it is a new token
   pub source-new : {r : ℕ} → WasTold place removed inserted t' r → r ≡ 0 → Sourced w widths n T place removed inserted t' x 0

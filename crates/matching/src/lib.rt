@@ -82,7 +82,7 @@ fn mark_starts(work: &mut [u8], slots: usize, n: usize) -> usize
 // One of the nodes lo..hi of symbol x with tokens, as 1 + its index, or 0.
 fn find(work: &[u8], slots: usize, lo: usize, hi: usize, x: usize) -> usize
     requires { ⌜ (hi ≤ slots) × (slots ≤ maxSlots) × (notesSize slots ≤ length (now work)) ⌝ }
-    ensures { λ r. ⌜ Found (nodesIn slots (now (work .entry))) (widthsIn slots (now (work .entry))) lo hi x r × (r ≤ hi) ⌝ }
+    ensures { λ r. ⌜ Found (nodesIn slots (now (work .entry))) (widthsIn slots (now (work .entry))) lo hi x r ⌝ }
 {
     let mut j = lo;
     while j < hi {
@@ -126,7 +126,7 @@ fn source(
     x: usize,
 ) -> usize
     requires { ⌜ (n ≤ slots) × (slots ≤ maxSlots) × (notesSize slots ≤ length (now work)) × (tokens ≤ slots) × Started (nodesIn slots (now work)) n tokens (startsIn slots (now work)) × (t ≤ 65535) × (place ≤ 65535) × (removed ≤ 65535) × (inserted ≤ 65535) ⌝ }
-    ensures { λ r. ⌜ Sourced (nodesIn slots (now (work .entry))) (widthsIn slots (now (work .entry))) n tokens place removed inserted t x r × (r ≤ n) ⌝ }
+    ensures { λ r. ⌜ Sourced (nodesIn slots (now (work .entry))) (widthsIn slots (now (work .entry))) n tokens place removed inserted t x r ⌝ }
 {
     let u = was(t, place, removed, inserted);
     if u == 0 {
@@ -199,7 +199,7 @@ fn seek(
     width: usize,
 ) -> usize
     requires { ⌜ (n ≤ slots) × (slots ≤ maxSlots) × (notesSize slots ≤ length (now work)) × (i < slots) × (tokens ≤ slots) × Started (nodesIn slots (now work)) n tokens (startsIn slots (now work)) × (t ≤ 65535) × (place ≤ 65535) × (removed ≤ 65535) × (inserted ≤ 65535) × Few n (matchesIn slots (now work)) × (width ≡ getD (widthsIn slots (now work)) (slots + i) 0) ⌝ }
-    ensures { λ r. ⌜ Seeks (nodesIn slots (now (work .entry))) (widthsIn slots (now (work .entry))) n tokens slots place removed inserted i t (matchesIn slots (now (work .entry))) (matchesIn slots (now (work .exit))) × Few n (matchesIn slots (now (work .exit))) × Viewed slots (now (work .exit)) (nodesIn slots (now (work .entry))) (endsIn slots (now (work .entry))) (widthsIn slots (now (work .entry))) (startsIn slots (now (work .entry))) (matchesIn slots (now (work .exit))) × (r ≡ getD (matchesIn slots (now (work .exit))) i 0) × (r ≤ n) ⌝ }
+    ensures { λ r. ⌜ Seeks (nodesIn slots (now (work .entry))) (widthsIn slots (now (work .entry))) n tokens slots place removed inserted i t (matchesIn slots (now (work .entry))) (matchesIn slots (now (work .exit))) × Few n (matchesIn slots (now (work .exit))) × Viewed slots (now (work .exit)) (nodesIn slots (now (work .entry))) (endsIn slots (now (work .entry))) (widthsIn slots (now (work .entry))) (startsIn slots (now (work .entry))) (matchesIn slots (now (work .exit))) × (r ≡ getD (matchesIn slots (now (work .exit))) i 0) ⌝ }
 {
     if width == 0 {
         return notes::match_of(work, slots, i);
@@ -271,7 +271,7 @@ struct Next {
 // Behind the new node i alone, which starts with token t.
 fn step(work: &[u8], slots: usize, i: usize, t: usize) -> Next
     requires { ⌜ (slots ≤ maxSlots) × (notesSize slots ≤ length (now work)) × (i < slots) × (t ≤ 65535) ⌝ }
-    ensures { λ r. ⌜ Stepped (nodesIn slots (now (work .entry))) slots i t (r .node) (r .token) × (r .node ≡ i + 1) ⌝ }
+    ensures { λ r. ⌜ Stepped (nodesIn slots (now (work .entry))) slots i t (r .node) (r .token) ⌝ }
 {
     if notes::production_in(work, slots, slots + i) != 0 {
         return Next {

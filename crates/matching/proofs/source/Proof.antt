@@ -7,10 +7,10 @@ was-requires : tie.Need-was-requires
 was-requires c κs = search needs
 
 returns : tie.Need-returns
-returns c = (source-new _ _ _ _ _ _ _ _ _ (c .before .was .ensures) (search needs), search needs)
+returns c = source-new _ _ _ _ _ _ _ _ _ (c .before .was .ensures) (search needs)
 
 returns-2 : tie.Need-returns-2
-returns-2 c = (source-beyond _ _ _ _ _ _ _ _ _ (c .before .before .was .ensures) (search needs) (search needs), search needs)
+returns-2 c = source-beyond _ _ _ _ _ _ _ _ _ (c .before .before .was .ensures) (search needs) (search needs)
 
 sub-start-of : tie.Need-sub-start-of
 sub-start-of c = search needs
@@ -25,9 +25,7 @@ find-requires : tie.Need-find-requires
 find-requires c κs = let x = starts-in (c .before .before .before .before .before .before .pre .4) (search needs) (c .start-of2 .ensures .0) in search needs
 
 returns-3 : tie.Need-returns-3
-returns-3 c =
-    let x = starts-in (c .before .before .before .before .before .before .before .pre .4) (search needs) (c .before .start-of2 .ensures .0) in
-    (source-found _ _ _ _ _ _ _ _ _ (c .before .before .before .before .before .before .before .pre .4) (c .before .before .before .before .before .was .ensures) (search needs) (search needs) (c .before .before .start-of .ensures .0) (c .before .start-of2 .ensures .0) (c .find .ensures .0), search needs)
+returns-3 c = source-found _ _ _ _ _ _ _ _ _ (c .before .before .before .before .before .before .before .pre .4) (c .before .before .before .before .before .was .ensures) (search needs) (search needs) (c .before .before .start-of .ensures .0) (c .before .start-of2 .ensures .0) (c .find .ensures)
 
 pub source-spec : {M : Type 1} → statement M
 source-spec =
