@@ -40,6 +40,10 @@ pub kept-some : (h : ℕ) → (h ≡ 0 → ⊥) → 1 ≡ keptOf (h ∷ [])
 kept-some zero n = absurd (n refl)
 kept-some (suc s) n = refl
 
+pub kept-few : {x : ℕ} (h : ℕ) → x ≡ keptOf (h ∷ []) → x ≤ 1
+kept-few zero e = omega arith
+kept-few (suc s) e = omega arith
+
 held-append : (hs : List ℕ) (h : ℕ) → heldOf (hs ++ (h ∷ [])) ≡ heldOf hs ++ heldOf (h ∷ [])
 held-append [] h = refl
 held-append (zero ∷ hs) h = held-append hs h
@@ -95,8 +99,8 @@ module _ (w ms : List ℕ) (i h : ℕ) (e : h ≡ slotBy w (getD ms i 0)) where
   pub marks-more : {m m' : List ℕ} → h < length m → m' ≡ mark m h → Marks w ms i m → Marks w ms (i + 1) m'
   marks-more {m} l f k = record { marked = rw (more, f) (marked-more m (heldFrom w ms i 0) h l (k .marked)) }
 
-  pub keeps-more : {kept x : ℕ} → x ≡ keptOf (h ∷ []) → x ≤ 1 → Keeps w ms i kept → Keeps w ms (i + 1) (kept + x)
-  keeps-more g l k = record { count = rw (more, kept-append (heldFrom w ms i 0) h) (omega (arith, k .count, g)); few = omega (arith, k .few) }
+  pub keeps-more : {kept x : ℕ} → x ≡ keptOf (h ∷ []) → Keeps w ms i kept → Keeps w ms (i + 1) (kept + x)
+  keeps-more g k = record { count = rw (more, kept-append (heldFrom w ms i 0) h) (omega (arith, k .count, g)); few = omega (arith, k .few, kept-few h g) }
 
 module _ {w ms : List ℕ} {k i : ℕ} (l : k ≤ i) (l' : i ≤ k) where
   pub marks-all : {m : List ℕ} → Marks w ms i m → Marks w ms k m
