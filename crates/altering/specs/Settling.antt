@@ -136,8 +136,8 @@ module _ (rows : List ℕ) (t n start count S : ℕ) (e : Edit) (tree w : List �
   pub both-one : trees (treeIn rows w k S) ≡ 1
   both-one = one-tree (new-derived .derives)
 
-  pub both-some : (1 ≤ o) × (1 ≤ k)
-  both-some = (omega (arith, derives-size (old-derived .derives), built-size rows w o 0), omega (arith, derives-size (new-derived .derives), built-size rows w k S))
+  pub both-some : 1 ≤ o
+  both-some = omega (arith, derives-size (old-derived .derives), built-size rows w o 0)
 
   -- its tokens are the edited sentence
   yields-new : yield new ≡ edited e (yield old)

@@ -340,7 +340,7 @@ fn go_through(
     removed: usize,
     inserted: usize,
 )
-    requires { ⌜ (1 ≤ n) × (1 ≤ k) × (n ≤ slots) × (k ≤ slots) × (slots ≤ maxSlots) × (notesSize slots ≤ length (now work)) × (tokens ≤ slots) × Started (nodesIn slots (now work)) n tokens (startsIn slots (now work)) × (place ≤ 65535) × (removed ≤ 65535) × (inserted ≤ 65535) × Rising (endsIn slots (now work)) 0 n × Rising (endsIn slots (now work)) slots (slots + k) × Blank (matchesIn slots (now work)) × Leaved (nodesIn slots (now work)) (endsIn slots (now work)) (widthsIn slots (now work)) slots (slots + k) ⌝ }
+    requires { ⌜ (1 ≤ n) × (n ≤ slots) × (k ≤ slots) × (slots ≤ maxSlots) × (notesSize slots ≤ length (now work)) × (tokens ≤ slots) × Started (nodesIn slots (now work)) n tokens (startsIn slots (now work)) × (place ≤ 65535) × (removed ≤ 65535) × (inserted ≤ 65535) × Rising (endsIn slots (now work)) 0 n × Rising (endsIn slots (now work)) slots (slots + k) × Blank (matchesIn slots (now work)) × Leaved (nodesIn slots (now work)) (endsIn slots (now work)) (widthsIn slots (now work)) slots (slots + k) ⌝ }
     ensures { λ _. ⌜ Matches (nodesIn slots (now (work .entry))) n slots k (endsIn slots (now (work .entry))) (widthsIn slots (now (work .entry))) tokens (startsIn slots (now (work .entry))) place removed inserted (matchesIn slots (now (work .exit))) × Few n (matchesIn slots (now (work .exit))) × Viewed slots (now (work .exit)) (nodesIn slots (now (work .entry))) (endsIn slots (now (work .entry))) (widthsIn slots (now (work .entry))) (startsIn slots (now (work .entry))) (matchesIn slots (now (work .exit))) ⌝ }
 {
     hand(work, slots, slots, 0);
@@ -364,7 +364,7 @@ pub fn match_nodes(
     removed: usize,
     inserted: usize,
 )
-    requires { ⌜ Built (now rows) (nodesIn slots (now work)) n 0 × Built (now rows) (nodesIn slots (now work)) k slots × (trees (treeIn (now rows) (nodesIn slots (now work)) k slots) ≡ 1) × (1 ≤ n) × (1 ≤ k) × (n ≤ slots) × (k ≤ slots) × (slots ≤ maxSlots) × (notesSize slots ≤ length (now work)) × (place ≤ 65535) × (removed ≤ 65535) × (inserted ≤ 65535) ⌝ }
+    requires { ⌜ Built (now rows) (nodesIn slots (now work)) n 0 × Built (now rows) (nodesIn slots (now work)) k slots × (trees (treeIn (now rows) (nodesIn slots (now work)) k slots) ≡ 1) × (1 ≤ n) × (n ≤ slots) × (k ≤ slots) × (slots ≤ maxSlots) × (notesSize slots ≤ length (now work)) × (place ≤ 65535) × (removed ≤ 65535) × (inserted ≤ 65535) ⌝ }
     ensures { λ _. ⌜ Matching (now (rows .entry)) (nodesIn slots (now (work .entry))) n slots k place removed inserted (matchesIn slots (now (work .exit))) × Few n (matchesIn slots (now (work .exit))) × (nodesIn slots (now (work .exit)) ≡ nodesIn slots (now (work .entry))) ⌝ }
 {
     notes::clear(work, slots);

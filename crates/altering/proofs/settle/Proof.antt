@@ -5,7 +5,7 @@ use Rattle.altering.proofs.settle.Statement.{statement}
 use Rattle.altering.proofs.settle.Tie as tie
 
 match-nodes-requires : tie.Need-match-nodes-requires
-match-nodes-requires c κs = let x = small _ _ _ _ _ _ _ _ _ _ _ _ _ (c .before .before .before .before .pre .0) in (lists-old _ _ _ _ _ _ _ _ _ _ _ _ _ (c .before .before .before .before .pre .0), lists-new _ _ _ _ _ _ _ _ _ _ _ _ _ (c .before .before .before .before .pre .0), one-root _ _ _ _ _ _ _ _ _ _ _ _ _ (c .before .before .before .before .pre .0), search needs, search needs, search needs, search needs, search needs, search needs, search needs, search needs, search needs)
+match-nodes-requires c κs = let x = small _ _ _ _ _ _ _ _ _ _ _ _ _ (c .before .before .before .before .pre .0) in (lists-old _ _ _ _ _ _ _ _ _ _ _ _ _ (c .before .before .before .before .pre .0), lists-new _ _ _ _ _ _ _ _ _ _ _ _ _ (c .before .before .before .before .pre .0), one-root _ _ _ _ _ _ _ _ _ _ _ _ _ (c .before .before .before .before .pre .0), search needs, search needs, search needs, search needs, search needs, search needs, search needs, search needs)
 
 give-slots-requires : tie.Need-give-slots-requires
 give-slots-requires c κs = let x = small _ _ _ _ _ _ _ _ _ _ _ _ _ (c .before .before .before .before .before .before .before .before .pre .0) in (search needs, search needs, search needs, slots-old _ _ _ _ _ _ _ _ _ _ _ _ _ (c .before .before .before .before .before .before .before .before .pre .0) (c .before .before .before .match-nodes .ensures .0) (c .before .before .before .match-nodes .ensures .1), fit-then _ _ _ _ _ _ _ _ _ _ _ _ _ (c .before .before .before .before .before .before .before .before .pre .0) (c .before .before .before .match-nodes .ensures .0) (c .before .before .before .match-nodes .ensures .1) (c .before .before .before .match-nodes .ensures .2))
