@@ -17,7 +17,7 @@ add-new-sentence : tie.Need-add-new-sentence
 add-new-sentence c = search needs
 
 new-sentence-requires : tie.Need-new-sentence-requires
-new-sentence-requires c κs = let f = treed-sized _ _ _ _ _ _ _ _ _ (c .before .before .before .before .before .before .pre .2) in (search needs, search needs, sentence-long _ (c .before .before .before .before .before .before .pre .3), search needs)
+new-sentence-requires c κs = let f = treed-sized _ _ _ _ _ _ _ _ _ (c .before .before .before .before .before .before .pre .2) in (search needs, sentence-long _ (c .before .before .before .before .before .before .pre .3), search needs)
 
 mul-parse : tie.Need-mul-parse
 mul-parse c = search needs
