@@ -86,6 +86,12 @@ pub data Turned (w ends widths : List ℕ) (n T base place removed inserted i t 
   carried : {i' t' : ℕ} {mid ms' : List ℕ} (j : ℕ) → Seeks w widths n T base place removed inserted i t ms mid → getD mid i 0 ≡ suc j → Reach ends widths base place inserted i t i' → InRow mid i i' (suc j) ms'
       → t' ≡ t + getD widths (base + i) 0 → Turned w ends widths n T base place removed inserted i t ms i' t' ms'
 
+-- it goes forward
+pub turned-low : {w ends widths : List ℕ} {n T base place removed inserted i t i' t' : ℕ} {ms ms' : List ℕ} → Turned w ends widths n T base place removed inserted i t ms i' t' ms' → i < i'
+turned-low (Turned.alone x z g) = omega (arith, g .node)
+turned-low (Turned.handed j x z y g) = omega (arith, g .node)
+turned-low (Turned.carried j x z g y v) = g .low
+
 module _ {w widths : List ℕ} {n T base place removed inserted i t : ℕ} {ms : List ℕ} where
   pub seeks-void : (v : ℕ) → v ≡ getD widths (base + i) 0 → v ≡ 0 → Seeks w widths n T base place removed inserted i t ms ms
   seeks-void v e z = Seeks.void (sym e ∙ z)

@@ -63,7 +63,7 @@ fn measure(work: &mut [u8], slots: usize, base: usize, n: usize, rows: &[u8])
 // Where the nodes of each token begin among the first n; the number of tokens. The first begin at 0, as the first entry says.
 fn mark_starts(work: &mut [u8], slots: usize, n: usize) -> usize
     requires { ⌜ (n ≤ slots) × (slots ≤ maxSlots) × (notesSize slots ≤ length (now work)) × (getD (startsIn slots (now work)) 0 0 ≡ 0) ⌝ }
-    ensures { λ r. ⌜ Started (nodesIn slots (now (work .entry))) n r (startsIn slots (now (work .exit))) × Viewed slots (now (work .exit)) (nodesIn slots (now (work .entry))) (endsIn slots (now (work .entry))) (widthsIn slots (now (work .entry))) (startsIn slots (now (work .exit))) (matchesIn slots (now (work .entry))) × (r ≤ n) ⌝ }
+    ensures { λ r. ⌜ Started (nodesIn slots (now (work .entry))) n r (startsIn slots (now (work .exit))) × Viewed slots (now (work .exit)) (nodesIn slots (now (work .entry))) (endsIn slots (now (work .entry))) (widthsIn slots (now (work .entry))) (startsIn slots (now (work .exit))) (matchesIn slots (now (work .entry))) ⌝ }
 {
     let mut t: usize = 0;
     let mut i: usize = 0;
@@ -125,7 +125,7 @@ fn source(
     t: usize,
     x: usize,
 ) -> usize
-    requires { ⌜ (n ≤ slots) × (slots ≤ maxSlots) × (notesSize slots ≤ length (now work)) × (tokens ≤ slots) × Started (nodesIn slots (now work)) n tokens (startsIn slots (now work)) × (t ≤ 65535) × (place ≤ 65535) × (removed ≤ 65535) × (inserted ≤ 65535) ⌝ }
+    requires { ⌜ (n ≤ slots) × (slots ≤ maxSlots) × (notesSize slots ≤ length (now work)) × Started (nodesIn slots (now work)) n tokens (startsIn slots (now work)) × (t ≤ 65535) × (place ≤ 65535) × (removed ≤ 65535) × (inserted ≤ 65535) ⌝ }
     ensures { λ r. ⌜ Sourced (nodesIn slots (now (work .entry))) (widthsIn slots (now (work .entry))) n tokens place removed inserted t x r ⌝ }
 {
     let u = was(t, place, removed, inserted);
@@ -198,7 +198,7 @@ fn seek(
     t: usize,
     width: usize,
 ) -> usize
-    requires { ⌜ (n ≤ slots) × (slots ≤ maxSlots) × (notesSize slots ≤ length (now work)) × (i < slots) × (tokens ≤ slots) × Started (nodesIn slots (now work)) n tokens (startsIn slots (now work)) × (t ≤ 65535) × (place ≤ 65535) × (removed ≤ 65535) × (inserted ≤ 65535) × Few n (matchesIn slots (now work)) × (width ≡ getD (widthsIn slots (now work)) (slots + i) 0) ⌝ }
+    requires { ⌜ (n ≤ slots) × (slots ≤ maxSlots) × (notesSize slots ≤ length (now work)) × (i < slots) × Started (nodesIn slots (now work)) n tokens (startsIn slots (now work)) × (t ≤ 65535) × (place ≤ 65535) × (removed ≤ 65535) × (inserted ≤ 65535) × Few n (matchesIn slots (now work)) × (width ≡ getD (widthsIn slots (now work)) (slots + i) 0) ⌝ }
     ensures { λ r. ⌜ Seeks (nodesIn slots (now (work .entry))) (widthsIn slots (now (work .entry))) n tokens slots place removed inserted i t (matchesIn slots (now (work .entry))) (matchesIn slots (now (work .exit))) × Few n (matchesIn slots (now (work .exit))) × Viewed slots (now (work .exit)) (nodesIn slots (now (work .entry))) (endsIn slots (now (work .entry))) (widthsIn slots (now (work .entry))) (startsIn slots (now (work .entry))) (matchesIn slots (now (work .exit))) × (r ≡ getD (matchesIn slots (now (work .exit))) i 0) ⌝ }
 {
     if width == 0 {
@@ -298,8 +298,8 @@ fn turn(
     i: usize,
     t: usize,
 ) -> Next
-    requires { ⌜ (n ≤ slots) × (k ≤ slots) × (slots ≤ maxSlots) × (notesSize slots ≤ length (now work)) × (i < k) × (tokens ≤ slots) × Started (nodesIn slots (now work)) n tokens (startsIn slots (now work)) × (t ≤ 65535) × (place ≤ 65535) × (removed ≤ 65535) × (inserted ≤ 65535) × Rising (endsIn slots (now work)) 0 n × Rising (endsIn slots (now work)) slots (slots + k) × Few n (matchesIn slots (now work)) ⌝ }
-    ensures { λ r. ⌜ Turned (nodesIn slots (now (work .entry))) (endsIn slots (now (work .entry))) (widthsIn slots (now (work .entry))) n tokens slots place removed inserted i t (matchesIn slots (now (work .entry))) (r .node) (r .token) (matchesIn slots (now (work .exit))) × Few n (matchesIn slots (now (work .exit))) × Viewed slots (now (work .exit)) (nodesIn slots (now (work .entry))) (endsIn slots (now (work .entry))) (widthsIn slots (now (work .entry))) (startsIn slots (now (work .entry))) (matchesIn slots (now (work .exit))) × (i < r .node) × (r .node ≤ k) ⌝ }
+    requires { ⌜ (n ≤ slots) × (k ≤ slots) × (slots ≤ maxSlots) × (notesSize slots ≤ length (now work)) × (i < k) × Started (nodesIn slots (now work)) n tokens (startsIn slots (now work)) × (t ≤ 65535) × (place ≤ 65535) × (removed ≤ 65535) × (inserted ≤ 65535) × Rising (endsIn slots (now work)) 0 n × Rising (endsIn slots (now work)) slots (slots + k) × Few n (matchesIn slots (now work)) ⌝ }
+    ensures { λ r. ⌜ Turned (nodesIn slots (now (work .entry))) (endsIn slots (now (work .entry))) (widthsIn slots (now (work .entry))) n tokens slots place removed inserted i t (matchesIn slots (now (work .entry))) (r .node) (r .token) (matchesIn slots (now (work .exit))) × Few n (matchesIn slots (now (work .exit))) × Viewed slots (now (work .exit)) (nodesIn slots (now (work .entry))) (endsIn slots (now (work .entry))) (widthsIn slots (now (work .entry))) (startsIn slots (now (work .entry))) (matchesIn slots (now (work .exit))) × (r .node ≤ k) ⌝ }
 {
     let width = notes::width_of(work, slots, slots + i);
     let v = seek(
@@ -340,7 +340,7 @@ fn go_through(
     removed: usize,
     inserted: usize,
 )
-    requires { ⌜ (1 ≤ n) × (n ≤ slots) × (k ≤ slots) × (slots ≤ maxSlots) × (notesSize slots ≤ length (now work)) × (tokens ≤ slots) × Started (nodesIn slots (now work)) n tokens (startsIn slots (now work)) × (place ≤ 65535) × (removed ≤ 65535) × (inserted ≤ 65535) × Rising (endsIn slots (now work)) 0 n × Rising (endsIn slots (now work)) slots (slots + k) × Blank (matchesIn slots (now work)) × Leaved (nodesIn slots (now work)) (endsIn slots (now work)) (widthsIn slots (now work)) slots (slots + k) ⌝ }
+    requires { ⌜ (1 ≤ n) × (n ≤ slots) × (k ≤ slots) × (slots ≤ maxSlots) × (notesSize slots ≤ length (now work)) × Started (nodesIn slots (now work)) n tokens (startsIn slots (now work)) × (place ≤ 65535) × (removed ≤ 65535) × (inserted ≤ 65535) × Rising (endsIn slots (now work)) 0 n × Rising (endsIn slots (now work)) slots (slots + k) × Blank (matchesIn slots (now work)) × Leaved (nodesIn slots (now work)) (endsIn slots (now work)) (widthsIn slots (now work)) slots (slots + k) ⌝ }
     ensures { λ _. ⌜ Matches (nodesIn slots (now (work .entry))) n slots k (endsIn slots (now (work .entry))) (widthsIn slots (now (work .entry))) tokens (startsIn slots (now (work .entry))) place removed inserted (matchesIn slots (now (work .exit))) × Few n (matchesIn slots (now (work .exit))) × Viewed slots (now (work .exit)) (nodesIn slots (now (work .entry))) (endsIn slots (now (work .entry))) (widthsIn slots (now (work .entry))) (startsIn slots (now (work .entry))) (matchesIn slots (now (work .exit))) ⌝ }
 {
     hand(work, slots, slots, 0);

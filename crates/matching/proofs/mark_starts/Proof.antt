@@ -46,7 +46,7 @@ same-length : tie.Need-same-length Inv-loop μ-loop
 same-length c = search needs
 
 returns : tie.Need-returns Inv-loop μ-loop
-returns c = (started-end (c .before .loop .inv .3) (search needs) (search needs), c .before .loop .inv .4, search needs)
+returns c = (started-end (c .before .loop .inv .3) (search needs) (search needs), c .before .loop .inv .4)
 
 pub mark-starts-spec : {M : Type 1} → statement M
 mark-starts-spec =

@@ -24,7 +24,7 @@ go-through-requires c κs =
     let w = starts-on v (c .before .before .before .mark-starts .ensures .1) in
     let g = gauged-out (c .before .before .before .before .before .before .before .before .before .before .before .before .before .before .before .clear .ensures) _ _ (c .before .before .before .before .before .before .before .before .before .before .before .measure .ensures .0) in
     let h = gauged-out u _ _ (c .before .before .before .before .before .before .before .measure2 .ensures .0) in
-    (search needs, search needs, search needs, search needs, search needs, search needs, started-in (c .before .before .before .mark-starts .ensures .1) (c .before .before .before .mark-starts .ensures .0), search needs, search needs, search needs, rising-in (c .before .before .before .mark-starts .ensures .1) (rising-old _ _ _ _ _ g h (search needs)), rising-in (c .before .before .before .mark-starts .ensures .1) (rising-new _ _ _ _ h), blank-zeros _ _ (w .matches), leaved-in w (leaved _ _ _ _ (c .before .before .before .before .before .before .before .before .before .before .before .before .before .before .before .before .before .before .before .pre .1) (h .measured)))
+    (search needs, search needs, search needs, search needs, search needs, started-in (c .before .before .before .mark-starts .ensures .1) (c .before .before .before .mark-starts .ensures .0), search needs, search needs, search needs, rising-in (c .before .before .before .mark-starts .ensures .1) (rising-old _ _ _ _ _ g h (search needs)), rising-in (c .before .before .before .mark-starts .ensures .1) (rising-new _ _ _ _ h), blank-zeros _ _ (w .matches), leaved-in w (leaved _ _ _ _ (c .before .before .before .before .before .before .before .before .before .before .before .before .before .before .before .before .before .before .before .pre .1) (h .measured)))
 
 same-length : tie.Need-same-length
 same-length c = search needs
