@@ -7,7 +7,7 @@ use native.Mathlib.Omega.{arith}
 use Rattle.base.specs.Blocks.{part-tail}
 use Rattle.grammar.specs.Grammar.{Grammar}
 use Rattle.grammar.specs.Rows.{grammarIn}
-use Rattle.trees.specs.Area.{Area}
+use Rattle.trees.specs.Area.{maxSlots, areaSize, Area}
 use Rattle.trees.specs.Nodes.{trees, build, Fed}
 use Rattle.trees.specs.Coded.{nodeSize, nodesFrom, arityIn}
 use Rattle.trees.specs.Spread.{Spread}
@@ -42,23 +42,24 @@ module _ (rows : List ℕ) (t n start count S place removed inserted : ℕ) (tre
 
   -- the numbers are small
   pub record Small : Type 0 where
+    pub few : S ≤ maxSlots
+    pub long : length tree ≡ areaSize S
     pub old : o ≤ S
     pub old-some : 1 ≤ o
     pub new : k ≤ S
-    pub new-some : 1 ≤ k
     pub place-few : place ≤ S
     pub removed-few : removed ≤ S
     pub inserted-few : inserted ≤ S
 
   pub small : Small
   small =
-      let x = both-some rows t n start count S (h .edit) tree w o k (h .both) in
       let y = both-numbers rows t n start count S (h .edit) tree w o k (h .both) in
       record {
+        few = h .both .old .valid .few;
+        long = h .both .old .valid .area .long;
         old = treed-fits rows t n start count S tree w o (h .both .old);
-        old-some = x .0;
+        old-some = both-some rows t n start count S (h .edit) tree w o k (h .both);
         new = h .both .fits;
-        new-some = x .1;
         place-few = omega (arith, y .0, h .numbers .place-is);
         removed-few = omega (arith, y .1, h .numbers .removed-is);
         inserted-few = omega (arith, y .2, h .numbers .inserted-is);

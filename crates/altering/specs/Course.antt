@@ -26,6 +26,7 @@ use Rattle.plain.specs.Outcome.{Ran, is-wrong, is-full}
 use Rattle.plain.specs.declared.Parsed.{Parsed}
 use Rattle.edits.specs.Keeping.{Edit}
 use Rattle.matching.specs.Finding.{Numbers}
+use Rattle.sentences.specs.Adding.{length-token-bytes}
 use Rattle.sentences.specs.Forming.{editOf, NewSentence}
 use Rattle.sentences.specs.Behind.{Fronted}
 use Rattle.sentences.specs.Grounding.{partOf, ground-of, parses-of, whole-of}
@@ -54,9 +55,13 @@ module _ (w b : List ℕ) (a : ℕ) (l : a ≤ length w) where
 pub text-is : (w : List ℕ) (S r : ℕ) {p : List ℕ} → p ≡ take (length w - nodeSize * S) (drop (nodeSize * S) w) → textIn S r p ≡ partOf (drop (nodeSize * (S + S)) w) r
 unfolding textIn
 text-is w S r {p} e =
-    let a : nodeSize * S + tokenSize * r - nodeSize * S ≡ tokenSize * r - 0 = omega arith in
+    let a : nodeSize * S + tokenSize * r - nodeSize * S ≡ tokenSize * r = omega arith in
     let b : nodeSize * S + nodeSize * S ≡ nodeSize * (S + S) = omega arith in
     rw (e, part-tail w (nodeSize * S), drop-drop (nodeSize * S) (nodeSize * S) w, a, b)
+
+-- as many bytes are lent as the tokens have
+pub sentence-long : {t : ℕ} {b : List ℕ} (m : ℕ) → Sentence t b (tokensFrom b m 0) → length b ≡ tokenSize * m
+sentence-long {b = b} m s = omega (arith, ap length (s .is), length-token-bytes (tokensFrom b m 0), length-tokens b m 0)
 
 -- ---- the edit
 

@@ -11,30 +11,29 @@ use Rattle.grammar.specs.Forest.{Token, Forest, size, yield, Derives}
 use Rattle.grammar.specs.Rows.{grammarIn}
 use Rattle.trees.specs.Area.{top, slots, Area}
 use Rattle.trees.specs.Nodes.{Node as Entry, leafNode, innerNode, leavesOf, leaves-yield, trees, Lists, lists-forest, forest-lists, build, Formed, build-preorder, derives-formed, Fed, fed-preorder}
-use Rattle.trees.specs.Coded.{nodeAt, nodesFrom, length-nodes, arityIn}
+use Rattle.trees.specs.Coded.{nodeAt, nodesFrom, arityIn}
 use Rattle.trees.specs.Listing.{inSlot}
 use Rattle.trees.specs.Members.{member}
 use Rattle.trees.specs.Spread.{slotsOf, slots-build, Spread}
-use Rattle.plain.specs.Traced.{Same}
+use Rattle.plain.specs.Traced.{derives-size, Same}
 use Rattle.plain.specs.Alike.{same-back}
 use Rattle.walks.specs.Reading.{valid-one}
 use Rattle.edits.specs.Keeping.{Edit, edited, Holds, Holding, GivenUp, Altered}
-use Rattle.edits.specs.One.{keeps-one}
+use Rattle.edits.specs.One.{keeps-node, keeps-one}
 use Rattle.edits.specs.Edited.{Trees}
-use Rattle.edits.specs.After.{first}
+use Rattle.edits.specs.Along.{keeps-front, void-along, after-along, before-along}
 use Rattle.edits.specs.Giving.{holding-held, kept-made}
 use Rattle.edits.specs.Counts.{kept-given-up}
 use Rattle.edits.specs.Uniqueness.{keeps-same}
 use Rattle.matching.specs.Measure.{treeIn, Built, built-size, stands, few-tokens}
 use Rattle.matching.specs.Finding.{Numbers}
 use Rattle.matching.specs.Handing.{Few}
-use Rattle.matching.specs.Matching.{Matched, KeepsOne, Fronts, Carries, keeps-node}
+use Rattle.matching.specs.Matching.{Matched, Apart, KeepsOne, Fronts, Carries}
 use Rattle.matching.specs.Through.{Matching}
 use Rattle.keeping.specs.Matched.{slotBy, heldFrom, Old, Fit, length-from, held-get, slot-none, slot-some}
 use Rattle.keeping.specs.Marking.{Keeps as Counts}
 use Rattle.keeping.specs.Filling.{Gives}
 use Rattle.keeping.specs.Result.{gives-spread, gives-same}
-use Rattle.altering.specs.Along.{fronts, carries}
 use Rattle.altering.specs.Treed.{arity-rows, Treed, treed-fits}
 use Rattle.altering.specs.Outcome.{Alters, AltersTree}
 use Rattle.altering.specs.declared.Alteration.the-variants as Alteration
@@ -56,18 +55,10 @@ derived rows t n start count w k base h =
     let e : build (arityIn rows) (nodesFrom w k base) ≡ q .0 = rw (q .2) at (build-preorder f) in
     record { built = record { formed = rw e f; listed = rw e (q .2) }; derives = rw e (q .1); fed = rw (q .2) at (fed-preorder f) }
 
--- a tree is one, and has a node
-one-tree : {G : Grammar} {X : ℕ} {f : Forest} → Derives G (X ∷ []) f → (trees f ≡ 1) × (1 ≤ size f)
-one-tree (Derives.leaf t Derives.nil) = (refl, omega arith)
-one-tree (Derives.node r k Derives.nil) = (refl, omega arith)
-
-few-leaves : (es : List Entry) → length (leavesOf es) ≤ length es
-few-leaves [] = omega arith
-few-leaves (e ∷ es) = go (e .production) refl (few-leaves es)
-  where
-    go : (p : ℕ) → e .production ≡ p → length (leavesOf es) ≤ length es → length (leavesOf (e ∷ es)) ≤ suc (length es)
-    go zero q l = rw q (omega arith)
-    go (suc p) q l = rw q (omega arith)
+-- a tree is one
+one-tree : {G : Grammar} {X : ℕ} {f : Forest} → Derives G (X ∷ []) f → trees f ≡ 1
+one-tree (Derives.leaf t Derives.nil) = refl
+one-tree (Derives.node r k Derives.nil) = refl
 
 -- the same nodes but for slots
 data Slotted : List Entry → List Entry → Type 0 where
@@ -143,24 +134,24 @@ module _ (rows : List ℕ) (t n start count S : ℕ) (e : Edit) (tree w : List �
   both-new = new-derived .built
 
   pub both-one : trees (treeIn rows w k S) ≡ 1
-  both-one = one-tree (new-derived .derives) .0
+  both-one = one-tree (new-derived .derives)
 
-  pub both-some : (1 ≤ o) × (1 ≤ k)
-  both-some =
-      let x = one-tree (old-derived .derives) .1 in
-      let y = one-tree (new-derived .derives) .1 in
-      (omega (arith, built-size rows w o 0), omega (arith, built-size rows w k S))
+  pub both-some : 1 ≤ o
+  both-some = omega (arith, derives-size (old-derived .derives), built-size rows w o 0)
+
+  -- its tokens are the edited sentence
+  yields-new : yield new ≡ edited e (yield old)
+  yields-new = sym (leaves-yield (new-derived .built .formed)) ∙ ap leavesOf (new-derived .built .listed) ∙ h .leaves
 
   pub both-numbers : (e .place ≤ S) × (e .removed ≤ S) × (length (e .inserted) ≤ S)
   both-numbers =
-      let x = few-leaves (nodesFrom w k S) in
-      let y = ap (λ (u : List Token). length u) (h .leaves) in
+      let y = ap (λ (u : List Token). length u) yields-new in
       let a = length-append (take (e .place) (yield old)) (e .inserted ++ drop (e .place + e .removed) (yield old)) in
       let b = length-append (e .inserted) (drop (e .place + e .removed) (yield old)) in
       let z = few-tokens old in
       let v = treed-fits rows t n start count S tree w o (h .old) in
       let u = h .old .count in
-      (omega (arith, h .room), omega (arith, h .room), omega (arith, length-nodes w k S, h .fits))
+      (omega (arith, h .room), omega (arith, h .room), omega (arith, few-tokens new, built-size rows w k S, h .fits))
 
   -- no new node keeps two slots
   pub both-keeps : KeepsOne e (treeIn rows w o 0) (treeIn rows w k S)
@@ -174,15 +165,17 @@ module _ (rows : List ℕ) (t n start count S : ℕ) (e : Edit) (tree w : List �
         first = h .old .valid .derives;
         second = new-derived .derives;
         room = h .room;
-        yields = sym (leaves-yield (new-derived .built .formed)) ∙ ap leavesOf (new-derived .built .listed) ∙ h .leaves;
+        yields = yields-new;
       } in
       rw old-is u
 
   pub both-carries : Carries e (treeIn rows w o 0) (treeIn rows w k S)
-  both-carries = carries both-trees
+  both-carries a' a q m t f x d (Apart.void l) c o = void-along both-trees x d c o l
+  both-carries a' a q m t f x d (Apart.after l) c o = after-along both-trees x d c o l
+  both-carries a' a q m t f x d (Apart.before l) c o = before-along both-trees x d c o l
 
   pub both-fronts : Fronts e (treeIn rows w o 0) (treeIn rows w k S)
-  both-fronts = fronts both-trees
+  both-fronts a q m t f d l = keeps-front both-trees d l
 
   -- ---- the slots that are held
 

@@ -1,15 +1,14 @@
 // An edit of a valid tree by good tokens: the new sentence is formed and parsed, its nodes get their slots, and the area is laid out.
 use plain::Parsed;
-ghost use mathlib.Core.Path.{_≡_};
 ghost use Prim.Native.Nat.{_+_, _*_, _≤_};
 ghost use lib.ListN.{length};
 ghost use Rattle.grammar.specs.Rows.{grammarIn};
-ghost use Rattle.trees.specs.Area.{maxSlots, areaSize, tokensPlace};
+ghost use Rattle.trees.specs.Area.{tokensPlace};
 ghost use Rattle.base.specs.Bytes.{get16};
 ghost use Rattle.grammar.specs.Prediction.{Prepared};
 ghost use Rattle.tables.specs.Tables.{Tables};
 ghost use Rattle.notes.specs.Views.{notesSize, nodesIn};
-ghost use Rattle.plain.specs.Tokens.{tokenSize, Sentence, tokensFrom};
+ghost use Rattle.plain.specs.Tokens.{Sentence, tokensFrom};
 ghost use Rattle.sentences.specs.Forming.{editOf};
 ghost use Rattle.altering.specs.Treed.{workAreas, Treed};
 ghost use Rattle.altering.specs.Outcome.{AltersTree, Few};
@@ -39,10 +38,10 @@ fn settle(
     work: &mut [u8],
     tree: &mut [u8],
 ) -> usize
-    requires { ⌜ Doubled (grammarIn (now rows) t n start count) slots place removed inserted (now tree) (nodesIn slots (now work)) o k × (slots ≤ maxSlots) × (length (now tree) ≡ areaSize slots) × (notesSize slots ≤ length (now work)) ⌝ }
+    requires { ⌜ Doubled (grammarIn (now rows) t n start count) slots place removed inserted (now tree) (nodesIn slots (now work)) o k × (notesSize slots ≤ length (now work)) ⌝ }
     ensures { λ r. ⌜ SettledAll (grammarIn (now (rows .entry)) t n start count) slots place removed inserted (now (tree .entry)) (nodesIn slots (now (work .entry))) o k r (now (tree .exit)) × (r ≤ k) × (r ≤ o) ⌝ }
 {
-    matching::match_nodes(work, o, slots, k, rows, place, removed, inserted);
+    matching::match_nodes(work, slots, o, k, rows, place, removed, inserted);
     let kept = keeping::give_slots(work, slots, k);
     trees::lay_out(&work[trees::NODE_SIZE * slots..], k, rows, slots, tree);
     kept
@@ -66,7 +65,7 @@ pub fn alter(
     work: &mut [u8],
     tree: &mut [u8],
 ) -> Alteration
-    requires { ⌜ Prepared (grammarIn (now rows) t n start count) × Tables (grammarIn (now rows) t n start count) (now tables) × Treed (grammarIn (now rows) t n start count) slots (now tree) (now work) o × Sentence t (now tokens) (tokensFrom (now tokens) m 0) × (length (now tokens) ≡ tokenSize * m) × (place + removed ≤ get16 (now tree) tokensPlace) × (workAreas * length (now tree) ≤ length (now work)) ⌝ }
+    requires { ⌜ Prepared (grammarIn (now rows) t n start count) × Tables (grammarIn (now rows) t n start count) (now tables) × Treed (grammarIn (now rows) t n start count) slots (now tree) (now work) o × Sentence t (now tokens) (tokensFrom (now tokens) m 0) × (place + removed ≤ get16 (now tree) tokensPlace) × (workAreas * length (now tree) ≤ length (now work)) ⌝ }
     ensures { λ r. ⌜ AltersTree (grammarIn (now (rows .entry)) t n start count) slots (editOf place removed (tokensFrom (now (tokens .entry)) m 0)) (now (tree .entry)) r (now (tree .exit)) × Few o r ⌝ }
 {
     let text = trees::NODE_SIZE * (slots + slots);

@@ -16,6 +16,8 @@ pub mod Productions
 pub mod Before
 -- A kept node that starts after the removed run carries its whole subtree along.
 pub mod After
+-- So does every kept node that the edit doesn't touch.
+pub mod Along
 -- What the tree area keeps of a subtree that is carried along.
 pub mod Untouched
 -- The slots of the new tree: given in one way only, and enough of them.

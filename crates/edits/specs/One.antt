@@ -7,8 +7,8 @@ use native.Mathlib.Omega.{arith}
 use Rattle.grammar.specs.Grammar.{Grammar}
 use Rattle.grammar.specs.Prediction.{Prepared}
 use Rattle.grammar.specs.Forest.{Forest, Derives}
-use Rattle.edits.specs.Keeping.{Edit, Kept, before, after, symbol, own, Keeps}
-use Rattle.edits.specs.Places.{at-number, at-one, at-child}
+use Rattle.edits.specs.Keeping.{Edit, Kept, before, after, symbol, own, Node, Keeps}
+use Rattle.edits.specs.Places.{at-number, at-one, at-child, Numbered}
 use Rattle.edits.specs.Stems.{at-start}
 
 -- a new token is one old token
@@ -48,6 +48,28 @@ pub keeps-old : {e : Edit} {old new : Forest} {a' a : ℕ} → Keeps e old new a
 keeps-old (Keeps.above x y) l = absurd (omega arith)
 keeps-old (Keeps.full n o k h p q) l = at-number o .0
 keeps-old (Keeps.void n o k p q) l = at-number o .0
+
+-- a kept slot is an old node's
+pub keeps-node : {e : Edit} {old new : Forest} {a' a : ℕ} → Keeps e old new a' a → 1 ≤ a → Numbered 1 0 0 0 old a
+keeps-node (Keeps.above x y) l = absurd (omega arith)
+keeps-node (Keeps.full {q = q} {m = m} {t = t} {f = f} hn ho k s ln lo) l = record { parent = q; child = m; token = t; forest = f; node = ho }
+keeps-node (Keeps.void {q = q} {m = m} {t = t} {f = f} hn ho k zn zo) l = record { parent = q; child = m; token = t; forest = f; node = ho }
+
+-- a node without tokens keeps a slot only below its parent's, at the same place
+pub record Below (e : Edit) (old new : Forest) (q m a : ℕ) : Type 0 where
+  pub parent : ℕ
+  pub keeps : Keeps e old new q parent
+  pub token : ℕ
+  pub forest : Forest
+  pub node : Node old a parent m token forest
+  pub none : own forest ≡ 0
+
+pub void-below : {e : Edit} {old new : Forest} {a' q m t a : ℕ} {f : Forest} → Node new a' q m t f → own f ≡ 0 → Keeps e old new a' a → Below e old new q m a
+void-below h z (Keeps.above x y) = absurd (omega (arith, at-number h .0))
+void-below h z (Keeps.full hn ho k s ln lo) = absurd (omega (arith, ln, ap own (at-one hn h .forest)))
+void-below {e} {old} {new} {a'} {q} {m} {t} {a} h z (Keeps.void {q' = q'} {q = p} {m = c} {t = u} {f = f} hn ho k zn zo) =
+    let s = at-one hn h in
+    record { parent = p; keeps = rw (s .parent) at k; token = u; forest = f; node = rw (s .child) at ho; none = zo }
 
 module _ {G : Grammar} (g : Prepared G) {old new : Forest} where
   -- a new node keeps one slot

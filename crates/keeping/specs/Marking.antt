@@ -10,8 +10,8 @@ use native.Mathlib.Omega.{arith}
 use Rattle.base.specs.Bytes.{byteAt}
 use Rattle.base.specs.Blocks.{zeros, byte-zeros}
 use Rattle.edits.specs.Keeping.{keptOf}
-use Rattle.edits.specs.Giving.{heldOf}
-use Rattle.keeping.specs.Matched.{slotBy, heldFrom, held-last}
+use Rattle.edits.specs.Giving.{heldOf, kept-made}
+use Rattle.keeping.specs.Matched.{slotBy, heldFrom, length-from, held-last}
 
 -- the slots held are the ones marked
 pub record Marked (m hs : List ℕ) : Type 0 where
@@ -39,6 +39,9 @@ kept-none (suc s) e = absurd (omega arith)
 pub kept-some : (h : ℕ) → (h ≡ 0 → ⊥) → 1 ≡ keptOf (h ∷ [])
 kept-some zero n = absurd (n refl)
 kept-some (suc s) n = refl
+
+pub kept-few : {x : ℕ} (h : ℕ) → x ≡ keptOf (h ∷ []) → x ≤ 1
+kept-few h e = omega (arith, kept-made (h ∷ []))
 
 held-append : (hs : List ℕ) (h : ℕ) → heldOf (hs ++ (h ∷ [])) ≡ heldOf hs ++ heldOf (h ∷ [])
 held-append [] h = refl
@@ -78,14 +81,16 @@ pub record Marks (w ms : List ℕ) (k : ℕ) (m : List ℕ) : Type 0 where
 -- so many are kept
 pub record Keeps (w ms : List ℕ) (k kept : ℕ) : Type 0 where
   pub count : kept ≡ keptOf (heldFrom w ms k 0)
-  pub few : kept ≤ k
+
+pub keeps-few : {w ms : List ℕ} {k kept : ℕ} → Keeps w ms k kept → kept ≤ k
+keeps-few {w} {ms} {k} h = omega (arith, h .count, kept-made (heldFrom w ms k 0), length-from w ms k 0)
 
 pub marks-none : (w ms m : List ℕ) (n : ℕ) → m ≡ zeros n → Marks w ms 0 m
 marks-none w ms m n e =
     record { marked = record { held = λ s x. absurd (List·Memᴰ·not-nil x); free = λ s x. ap (λ (u : List ℕ). byteAt u s) e ∙ byte-zeros n s } }
 
 pub keeps-none : (w ms : List ℕ) → Keeps w ms 0 0
-keeps-none w ms = record { count = refl; few = omega arith }
+keeps-none w ms = record { count = refl }
 
 module _ (w ms : List ℕ) (i h : ℕ) (e : h ≡ slotBy w (getD ms i 0)) where
   more : heldFrom w ms (i + 1) 0 ≡ heldFrom w ms i 0 ++ (h ∷ [])
@@ -95,8 +100,8 @@ module _ (w ms : List ℕ) (i h : ℕ) (e : h ≡ slotBy w (getD ms i 0)) where
   pub marks-more : {m m' : List ℕ} → h < length m → m' ≡ mark m h → Marks w ms i m → Marks w ms (i + 1) m'
   marks-more {m} l f k = record { marked = rw (more, f) (marked-more m (heldFrom w ms i 0) h l (k .marked)) }
 
-  pub keeps-more : {kept x : ℕ} → x ≡ keptOf (h ∷ []) → x ≤ 1 → Keeps w ms i kept → Keeps w ms (i + 1) (kept + x)
-  keeps-more g l k = record { count = rw (more, kept-append (heldFrom w ms i 0) h) (omega (arith, k .count, g)); few = omega (arith, k .few) }
+  pub keeps-more : {kept x : ℕ} → x ≡ keptOf (h ∷ []) → Keeps w ms i kept → Keeps w ms (i + 1) (kept + x)
+  keeps-more g k = record { count = rw (more, kept-append (heldFrom w ms i 0) h) (omega (arith, k .count, g)) }
 
 module _ {w ms : List ℕ} {k i : ℕ} (l : k ≤ i) (l' : i ≤ k) where
   pub marks-all : {m : List ℕ} → Marks w ms i m → Marks w ms k m

@@ -26,7 +26,7 @@ fn held(work: &[u8], slots: usize, i: usize) -> usize
 // Marks slot h, unless it is 0, and answers how many that are.
 fn hold(work: &mut [u8], slots: usize, h: usize) -> usize
     requires { ⌜ (slots ≤ maxSlots) × (notesSize slots ≤ length (now work)) × (h ≤ slots) ⌝ }
-    ensures { λ r. ⌜ Seen slots (now (work .exit)) (nodesIn slots (now (work .entry))) (matchesIn slots (now (work .entry))) (mark (marksIn slots (now (work .entry))) h) × (r ≡ keptOf (h ∷ [])) × (r ≤ 1) ⌝ }
+    ensures { λ r. ⌜ Seen slots (now (work .exit)) (nodesIn slots (now (work .entry))) (matchesIn slots (now (work .entry))) (mark (marksIn slots (now (work .entry))) h) × (r ≡ keptOf (h ∷ [])) ⌝ }
 {
     if h == 0 {
         return 0;

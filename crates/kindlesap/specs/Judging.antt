@@ -1,7 +1,8 @@
 -- The laws that the proofs of the calls cite: what each test on the way says of the grammar in the rows.
-use Prim.Native.Nat.{ℕ, _≤_, _<_}
-use mathlib.Core.Path.{_≡_}
+use Prim.Native.Nat.{ℕ, zero, suc, _+_, _≤_, _<_}
+use mathlib.Core.Path.{_≡_, refl, ap}
 use mathlib.Core.List.{List}
+use lib.ListN.{length}
 use native.Mathlib.Omega.{arith}
 use Rattle.base.specs.Choose.{never}
 use Rattle.grammar.specs.Limits.{maxTerminals, maxNonterminals, maxProductions}
@@ -9,7 +10,7 @@ use Rattle.grammar.specs.Grammar.{Grammar, WellFormed}
 use Rattle.grammar.specs.Derivation.{Useless, Lowest}
 use Rattle.grammar.specs.Prediction.{Conflict}
 use Rattle.grammar.specs.Image.{Image, Bad}
-use Rattle.grammar.specs.Rows.{symbolSpace, grammarIn, rowsOf, rows-grammar, start-small}
+use Rattle.grammar.specs.Rows.{symbolSpace, productionsFrom, grammarIn, rowsOf, rows-grammar, start-small}
 use Rattle.grammar.specs.Outcome.{headOf, Reads, reads-good, reads-bad}
 use Rattle.grammar.specs.declared.Head.{Head}
 use Rattle.grammar.specs.declared.GrammarRead.{GrammarRead}
@@ -35,10 +36,15 @@ pub data Found (rows : List ℕ) (t n start count : ℕ) (s cells : List ℕ) : 
   in-conflict : {M : ℕ} → ((N : ℕ) → Useless (grammarIn rows t n start count) N → ⊥) → Lowest (Conflict (grammarIn rows t n start count)) M
       → Found rows t n start count s cells (Judgement.Conflict M)
 
+-- so many productions are read from the rows
+length-productions : (rows : List ℕ) (k p : ℕ) → length (productionsFrom rows k p) ≡ k
+length-productions rows zero p = refl
+length-productions rows (suc k) p = ap suc (length-productions rows k (p + 1))
+
 module _ (rows : List ℕ) (t n start count : ℕ) (f : WellFormed (grammarIn rows t n start count)) where
-  pub bounds : (t ≤ maxTerminals) × (n ≤ maxNonterminals) × (start < symbolSpace)
+  pub bounds : (t ≤ maxTerminals) × (n ≤ maxNonterminals) × (start < symbolSpace) × (count ≤ maxProductions)
   unfolding grammarIn
-  bounds = (f .head .terminals .1, f .head .nonterminals .1, start-small rows t n start count f)
+  bounds = (f .head .terminals .1, f .head .nonterminals .1, start-small rows t n start count f, omega (arith, f .few, length-productions rows count 0))
 
   module _ (s : List ℕ) (k : (m : ℕ) → Known (grammarIn rows t m start count) s) where
     pub have-rows : Rowed rows t count
@@ -90,27 +96,20 @@ module _ (Q : Reply → List ℕ → Type 0) (w : List ℕ) where
 
 -- ---- from the reader's answer
 
-record Got (image rows : List ℕ) (h : Head) : Type 0 where
-  is : Image image (headed rows h)
-  few : h .count ≤ maxProductions
-
-got-good : {image rows : List ℕ} {r : GrammarRead} (h : Head) → Reads image r rows → r ≡ GrammarRead.Good h → Got image rows h
+got-good : {image rows : List ℕ} {r : GrammarRead} (h : Head) → Reads image r rows → r ≡ GrammarRead.Good h → Image image (headed rows h)
 got-good {image} h (reads-good G i) e =
     let q : headOf G ≡ h = cc in
     let z : headed (rowsOf (G .productions)) (headOf G) ≡ G = rows-grammar G (i .formed) in
     let j : Image image (headed (rowsOf (G .productions)) (headOf G)) = rw z i in
-    rw (← q) (record { is = j; few = i .formed .few })
+    rw (← q) j
 got-good h (reads-bad b) e = absurd (let z : _≡_ {A = ℕ} 0 1 = cc in omega arith)
 
 module _ (image rows : List ℕ) (r : GrammarRead) (h : Head) (x : Reads image r rows) (e : r ≡ GrammarRead.Good h) where
   pub got-formed : WellFormed (headed rows h)
-  got-formed = got-good h x e .is .formed
-
-  pub got-few : h .count ≤ maxProductions
-  got-few = got-good h x e .few
+  got-formed = got-good h x e .formed
 
   pub opened-good : (Q : Grammar → Reply → List ℕ → Type 0) (w w' : List ℕ) (reply : Reply) → Judged (headed rows h) (Q (headed rows h)) w reply w' → Opened image Q w reply w'
-  opened-good Q w w' reply j = good-image (got-good h x e .is) j
+  opened-good Q w w' reply j = good-image (got-good h x e) j
 
 bad-of : {image rows : List ℕ} {r : GrammarRead} (k : ℕ) → Reads image r rows → r ≡ GrammarRead.Bad k → Bad image k
 bad-of k (reads-good G i) e = absurd (let z : _≡_ {A = ℕ} 0 1 = cc in omega arith)

@@ -4,9 +4,7 @@ use grammar::GrammarRead;
 use grammar::Head;
 use replies::Reason;
 use replies::Reply;
-ghost use Prim.Native.Nat.{_≤_};
 ghost use lib.ListN.{length};
-ghost use Rattle.grammar.specs.Limits.{maxProductions};
 ghost use Rattle.grammar.specs.Rows.{grammarIn};
 ghost use Rattle.grammar.specs.Grammar.{WellFormed};
 ghost use Rattle.grammar.specs.Prediction.{Prepared};
@@ -100,7 +98,7 @@ fn edit_read(
     tokens: &[u8],
     work: &mut [u8],
 ) -> Reply
-    requires { ⌜ WellFormed (grammarIn (now rows) (head .t) (head .n) (head .start) (head .count)) × (head .count ≤ maxProductions) ⌝ }
+    requires { ⌜ WellFormed (grammarIn (now rows) (head .t) (head .n) (head .start) (head .count)) ⌝ }
     ensures { λ r. ⌜ Judged (grammarIn (now (rows .entry)) (head .t) (head .n) (head .start) (head .count)) (Edits (now (tables .entry)) (now (tokens .entry)) place removed (length (now (work .entry))) (now (tree .entry)) (grammarIn (now (rows .entry)) (head .t) (head .n) (head .start) (head .count))) (now (tree .entry)) r (now (tree .exit)) ⌝ }
 {
     let t = head.t;

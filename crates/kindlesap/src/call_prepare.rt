@@ -4,8 +4,6 @@ use grammar::Head;
 use replies::Counts;
 use replies::Reason;
 use replies::Reply;
-ghost use Prim.Native.Nat.{_≤_};
-ghost use Rattle.grammar.specs.Limits.{maxProductions};
 ghost use Rattle.grammar.specs.Rows.{grammarIn};
 ghost use Rattle.grammar.specs.Grammar.{WellFormed};
 ghost use Rattle.tables.specs.Outcome.{Ready};
@@ -40,7 +38,7 @@ fn prepare_fit(
 
 // A grammar that was read: replies 2, 3 and 4, or its tables.
 pub fn prepare_read(head: Head, rows: &[u8; grammar::ROWS_SIZE], tables: &mut [u8]) -> Reply
-    requires { ⌜ WellFormed (grammarIn (now rows) (head .t) (head .n) (head .start) (head .count)) × (head .count ≤ maxProductions) ⌝ }
+    requires { ⌜ WellFormed (grammarIn (now rows) (head .t) (head .n) (head .start) (head .count)) ⌝ }
     ensures { λ r. ⌜ Judged (grammarIn (now (rows .entry)) (head .t) (head .n) (head .start) (head .count)) (Writes (now (tables .entry)) (grammarIn (now (rows .entry)) (head .t) (head .n) (head .start) (head .count))) (now (tables .entry)) r (now (tables .exit)) ⌝ }
 {
     let t = head.t;

@@ -7,7 +7,6 @@ use replies::Reply;
 use walks::Walked;
 ghost use Prim.Native.Nat.{_+_, _*_, _<_, _≤_};
 ghost use lib.ListN.{length};
-ghost use Rattle.grammar.specs.Limits.{maxProductions};
 ghost use Rattle.grammar.specs.Rows.{symbolSpace, grammarIn};
 ghost use Rattle.grammar.specs.Grammar.{WellFormed};
 ghost use Rattle.trees.specs.Coded.{nodeSize};
@@ -77,7 +76,7 @@ pub fn read_read(
     tree: &[u8],
     output: &mut [u8],
 ) -> Reply
-    requires { ⌜ WellFormed (grammarIn (now rows) (head .t) (head .n) (head .start) (head .count)) × (head .count ≤ maxProductions) ⌝ }
+    requires { ⌜ WellFormed (grammarIn (now rows) (head .t) (head .n) (head .start) (head .count)) ⌝ }
     ensures { λ r. ⌜ Judged (grammarIn (now (rows .entry)) (head .t) (head .n) (head .start) (head .count)) (Returns (now (tree .entry)) (now (output .entry)) (grammarIn (now (rows .entry)) (head .t) (head .n) (head .start) (head .count))) (now (output .entry)) r (now (output .exit)) ⌝ }
 {
     let t = head.t;

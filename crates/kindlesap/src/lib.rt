@@ -8,10 +8,9 @@ use grammar::GrammarRead;
 use replies::Reason;
 use replies::Reply;
 ghost use mathlib.Core.Path.{_≡_};
-ghost use Prim.Native.Nat.{_+_, _<_, _≤_};
+ghost use Prim.Native.Nat.{_+_, _<_};
 ghost use lib.ListN.{length};
 ghost use Rattle.base.specs.Blocks.{zeros};
-ghost use Rattle.grammar.specs.Limits.{maxProductions};
 ghost use Rattle.grammar.specs.Rows.{grammarIn};
 ghost use Rattle.grammar.specs.Grammar.{WellFormed};
 ghost use Rattle.sets.specs.Words.{setsSize};
@@ -42,7 +41,7 @@ fn judge(
     sets: &mut [u32],
     cells: &mut [u8],
 ) -> Judgement
-    requires { ⌜ WellFormed (grammarIn (now rows) t n start count) × (count ≤ maxProductions) × (length (now sets) ≡ setsSize) × (length (now cells) ≡ predictionsSize) × (now cells ≡ zeros predictionsSize) ⌝ }
+    requires { ⌜ WellFormed (grammarIn (now rows) t n start count) × (length (now sets) ≡ setsSize) × (now cells ≡ zeros predictionsSize) ⌝ }
     ensures { λ r. ⌜ Found (now (rows .entry)) t n start count (now (sets .exit)) (now (cells .exit)) r ⌝ }
 {
     sets::analyse(rows, t, start, count, sets);

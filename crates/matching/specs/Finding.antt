@@ -25,6 +25,14 @@ leaves-mono : (w : List ℕ) (i j : ℕ) → i ≤ j → leavesTo w i ≤ leaves
 leaves-mono w i zero l = let e : i ≡ 0 = omega arith in rw e (omega arith)
 leaves-mono w i (suc j) l = by-cases (ℕ-discrete i (suc j)) (λ e. rw e (omega arith)) (λ n. omega (arith, leaves-mono w i j (omega arith)))
 
+leaves-few : (w : List ℕ) (i : ℕ) → leavesTo w i ≤ i
+leaves-few w zero = omega arith
+leaves-few w (suc i) = go (nodeAt w i .production) (leaves-few w i)
+  where
+    go : (p : ℕ) → leavesTo w i ≤ i → leavesTo w i + leafOf p ≤ suc i
+    go zero l = omega arith
+    go (suc p) l = omega arith
+
 pub leaves-next : (w : List ℕ) (i : ℕ) → leavesTo w (i + 1) ≡ leavesTo w i + leafOf (nodeAt w i .production)
 leaves-next w i = let e : i + 1 ≡ suc i = omega arith in rw e
 
@@ -124,6 +132,9 @@ pub record Started (w : List ℕ) (i t : ℕ) (starts : List ℕ) : Type 0 where
   pub here : (u : ℕ) → u ≤ t → leavesTo w (getD starts u 0) ≡ u
   pub few : (u : ℕ) → u ≤ t → getD starts u 0 ≤ i
   pub step : (u : ℕ) → u < t → (z : ℕ) → getD starts (u + 1) 0 ≡ suc z → leavesTo w z ≡ u
+
+pub started-few : {w starts : List ℕ} {i t : ℕ} → Started w i t starts → t ≤ i
+started-few {w} {i = i} h = omega (arith, h .count, leaves-few w i)
 
 pub started-none : (w starts : List ℕ) → getD starts 0 0 ≡ 0 → Started w 0 0 starts
 started-none w starts e =
@@ -282,6 +293,10 @@ pub data Sourced (w widths : List ℕ) (n T place removed inserted t' x : ℕ) :
       → Sourced w widths n T place removed inserted t' x (y + 1)
   none : ((y t : ℕ) → t < T → Was place removed inserted t' t → leavesTo w y ≡ t → nodeAt w y .symbol ≡ x → (getD widths y 0 ≡ 0 → ⊥) → ⊥)
       → Sourced w widths n T place removed inserted t' x 0
+
+pub sourced-few : {w widths : List ℕ} {n T place removed inserted t' x r : ℕ} → Sourced w widths n T place removed inserted t' x r → r ≤ n
+sourced-few (Sourced.some l was v y z) = omega arith
+sourced-few (Sourced.none f) = omega arith
 
 module _ (w widths : List ℕ) (n T place removed inserted t' x : ℕ) where
   -- it is a new token

@@ -12,6 +12,7 @@ use Rattle.trees.specs.Nodes.{trees, back, leafOf, no-leaf}
 use Rattle.trees.specs.Coded.{nodeAt}
 use Rattle.edits.specs.Keeping.{Edit, symbol, own, below, Node, Keeps}
 use Rattle.edits.specs.Places.{treeSize, at-number, at-token, at-below-parent, at-one, Numbered, at-node}
+use Rattle.edits.specs.One.{keeps-node, void-below}
 use Rattle.matching.specs.Measure.{treeIn, Built, built-size, Measured, stands}
 use Rattle.matching.specs.Finding.{leavesTo, first-token, all-tokens, Started, Numbers, kept-was, was-kept, Sourced}
 use Rattle.matching.specs.Handing.{kid, HandedAll}
@@ -85,6 +86,12 @@ pub data Turned (w ends widths : List ℕ) (n T base place removed inserted i t 
   carried : {i' t' : ℕ} {mid ms' : List ℕ} (j : ℕ) → Seeks w widths n T base place removed inserted i t ms mid → getD mid i 0 ≡ suc j → Reach ends widths base place inserted i t i' → InRow mid i i' (suc j) ms'
       → t' ≡ t + getD widths (base + i) 0 → Turned w ends widths n T base place removed inserted i t ms i' t' ms'
 
+-- it goes forward
+pub turned-low : {w ends widths : List ℕ} {n T base place removed inserted i t i' t' : ℕ} {ms ms' : List ℕ} → Turned w ends widths n T base place removed inserted i t ms i' t' ms' → i < i'
+turned-low (Turned.alone x z g) = omega (arith, g .node)
+turned-low (Turned.handed j x z y g) = omega (arith, g .node)
+turned-low (Turned.carried j x z g y v) = g .low
+
 module _ {w widths : List ℕ} {n T base place removed inserted i t : ℕ} {ms : List ℕ} where
   pub seeks-void : (v : ℕ) → v ≡ getD widths (base + i) 0 → v ≡ 0 → Seeks w widths n T base place removed inserted i t ms ms
   seeks-void v e z = Seeks.void (sym e ∙ z)
@@ -155,28 +162,6 @@ matched-none (Matched.none n) z a x = n a x
 matched-some : {e : Edit} {old new : Forest} {a' v j : ℕ} → Matched e old new a' v → v ≡ suc j → Keeps e old new a' (suc j)
 matched-some (Matched.keeps l k) z = rw z at k
 matched-some (Matched.none n) z = absurd (omega arith)
-
--- a kept slot is an old node's
-pub keeps-node : {e : Edit} {old new : Forest} {a' a : ℕ} → Keeps e old new a' a → 1 ≤ a → Numbered 1 0 0 0 old a
-keeps-node (Keeps.above x y) l = absurd (omega arith)
-keeps-node (Keeps.full {q = q} {m = m} {t = t} {f = f} hn ho k s ln lo) l = record { parent = q; child = m; token = t; forest = f; node = ho }
-keeps-node (Keeps.void {q = q} {m = m} {t = t} {f = f} hn ho k zn zo) l = record { parent = q; child = m; token = t; forest = f; node = ho }
-
--- a node without tokens keeps a slot only below its parent's, at the same place
-pub record Below (e : Edit) (old new : Forest) (q m a : ℕ) : Type 0 where
-  pub parent : ℕ
-  pub keeps : Keeps e old new q parent
-  pub token : ℕ
-  pub forest : Forest
-  pub node : Node old a parent m token forest
-  pub none : own forest ≡ 0
-
-pub void-below : {e : Edit} {old new : Forest} {a' q m t a : ℕ} {f : Forest} → Node new a' q m t f → own f ≡ 0 → Keeps e old new a' a → Below e old new q m a
-void-below h z (Keeps.above x y) = absurd (omega (arith, at-number h .0))
-void-below h z (Keeps.full hn ho k s ln lo) = absurd (omega (arith, ln, ap own (at-one hn h .forest)))
-void-below {e} {old} {new} {a'} {q} {m} {t} {a} h z (Keeps.void {q' = q'} {q = p} {m = c} {t = u} {f = f} hn ho k zn zo) =
-    let s = at-one hn h in
-    record { parent = p; keeps = rw (s .parent) at k; token = u; forest = f; node = rw (s .child) at ho; none = zo }
 
 some-of : (k : ℕ) → (k ≡ 0 → ⊥) → 1 ≤ k
 some-of zero n = absurd (n refl)

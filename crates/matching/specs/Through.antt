@@ -13,11 +13,12 @@ use Rattle.trees.specs.Nodes.{trees, back, leafOf}
 use Rattle.trees.specs.Coded.{nodeAt}
 use Rattle.edits.specs.Keeping.{Edit, own, At, Node, Keeps}
 use Rattle.edits.specs.Places.{at-number, at-some, at-below-parent, at-one, at-child, Side, Parent, at-up, Numbered, at-node}
+use Rattle.edits.specs.One.{void-below}
 use Rattle.matching.specs.Measure.{treeIn, Built, built-size, Measured, measured-end, Gauged, measured-kept}
 use Rattle.matching.specs.Finding.{leavesTo, leaves-next, Leaved, Started, Numbers}
 use Rattle.matching.specs.Handing.{Rising, Few, Handed}
 use Rattle.matching.specs.Kids.{back-some}
-use Rattle.matching.specs.Matching.{Matched, Status, Stepped, Turned, Ready, Counted, KeepsOne, Fronts, Carries, void-below, status-turn}
+use Rattle.matching.specs.Matching.{Matched, Status, Stepped, Turned, Ready, Counted, KeepsOne, Fronts, Carries, status-turn}
 
 -- every entry is 0
 pub record Blank (ms : List ℕ) : Type 0 where

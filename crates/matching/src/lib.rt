@@ -61,9 +61,9 @@ fn measure(work: &mut [u8], slots: usize, base: usize, n: usize, rows: &[u8])
 }
 
 // Where the nodes of each token begin among the first n; the number of tokens. The first begin at 0, as the first entry says.
-fn mark_starts(work: &mut [u8], n: usize, slots: usize) -> usize
+fn mark_starts(work: &mut [u8], slots: usize, n: usize) -> usize
     requires { ⌜ (n ≤ slots) × (slots ≤ maxSlots) × (notesSize slots ≤ length (now work)) × (getD (startsIn slots (now work)) 0 0 ≡ 0) ⌝ }
-    ensures { λ r. ⌜ Started (nodesIn slots (now (work .entry))) n r (startsIn slots (now (work .exit))) × Viewed slots (now (work .exit)) (nodesIn slots (now (work .entry))) (endsIn slots (now (work .entry))) (widthsIn slots (now (work .entry))) (startsIn slots (now (work .exit))) (matchesIn slots (now (work .entry))) × (r ≤ n) ⌝ }
+    ensures { λ r. ⌜ Started (nodesIn slots (now (work .entry))) n r (startsIn slots (now (work .exit))) × Viewed slots (now (work .exit)) (nodesIn slots (now (work .entry))) (endsIn slots (now (work .entry))) (widthsIn slots (now (work .entry))) (startsIn slots (now (work .exit))) (matchesIn slots (now (work .entry))) ⌝ }
 {
     let mut t: usize = 0;
     let mut i: usize = 0;
@@ -82,7 +82,7 @@ fn mark_starts(work: &mut [u8], n: usize, slots: usize) -> usize
 // One of the nodes lo..hi of symbol x with tokens, as 1 + its index, or 0.
 fn find(work: &[u8], slots: usize, lo: usize, hi: usize, x: usize) -> usize
     requires { ⌜ (hi ≤ slots) × (slots ≤ maxSlots) × (notesSize slots ≤ length (now work)) ⌝ }
-    ensures { λ r. ⌜ Found (nodesIn slots (now (work .entry))) (widthsIn slots (now (work .entry))) lo hi x r × (r ≤ hi) ⌝ }
+    ensures { λ r. ⌜ Found (nodesIn slots (now (work .entry))) (widthsIn slots (now (work .entry))) lo hi x r ⌝ }
 {
     let mut j = lo;
     while j < hi {
@@ -116,8 +116,8 @@ fn was(t: usize, place: usize, removed: usize, inserted: usize) -> usize
 // The old node of symbol x, with tokens, that starts with the token that t of the new sentence was, as 1 + its index; 0 where there is none.
 fn source(
     work: &[u8],
-    n: usize,
     slots: usize,
+    n: usize,
     tokens: usize,
     place: usize,
     removed: usize,
@@ -125,8 +125,8 @@ fn source(
     t: usize,
     x: usize,
 ) -> usize
-    requires { ⌜ (n ≤ slots) × (slots ≤ maxSlots) × (notesSize slots ≤ length (now work)) × (tokens ≤ slots) × Started (nodesIn slots (now work)) n tokens (startsIn slots (now work)) × (t ≤ 65535) × (place ≤ 65535) × (removed ≤ 65535) × (inserted ≤ 65535) ⌝ }
-    ensures { λ r. ⌜ Sourced (nodesIn slots (now (work .entry))) (widthsIn slots (now (work .entry))) n tokens place removed inserted t x r × (r ≤ n) ⌝ }
+    requires { ⌜ (n ≤ slots) × (slots ≤ maxSlots) × (notesSize slots ≤ length (now work)) × Started (nodesIn slots (now work)) n tokens (startsIn slots (now work)) × (t ≤ 65535) × (place ≤ 65535) × (removed ≤ 65535) × (inserted ≤ 65535) ⌝ }
+    ensures { λ r. ⌜ Sourced (nodesIn slots (now (work .entry))) (widthsIn slots (now (work .entry))) n tokens place removed inserted t x r ⌝ }
 {
     let u = was(t, place, removed, inserted);
     if u == 0 {
@@ -155,7 +155,7 @@ fn hand(work: &mut [u8], slots: usize, c: usize, d: usize)
 }
 
 // The new node at i keeps the slot of the old one at j; their children.
-fn hand_on(work: &mut [u8], n: usize, slots: usize, k: usize, i: usize, j: usize)
+fn hand_on(work: &mut [u8], slots: usize, n: usize, k: usize, i: usize, j: usize)
     requires { ⌜ (n ≤ slots) × (k ≤ slots) × (slots ≤ maxSlots) × (notesSize slots ≤ length (now work)) × Rising (endsIn slots (now work)) 0 n × Rising (endsIn slots (now work)) slots (slots + k) × (slots ≤ i) × (i < slots + k) × (j < n) × Few n (matchesIn slots (now work)) ⌝ }
     ensures { λ _. ⌜ HandedAll (endsIn slots (now (work .entry))) (widthsIn slots (now (work .entry))) slots i j (matchesIn slots (now (work .entry))) (matchesIn slots (now (work .exit))) × Few n (matchesIn slots (now (work .exit))) × Viewed slots (now (work .exit)) (nodesIn slots (now (work .entry))) (endsIn slots (now (work .entry))) (widthsIn slots (now (work .entry))) (startsIn slots (now (work .entry))) (matchesIn slots (now (work .exit))) ⌝ }
 {
@@ -188,8 +188,8 @@ fn carry(work: &mut [u8], slots: usize, i: usize, stop: usize, v: usize)
 // Looks for the old node of the new node i, which starts with token t, if it has tokens; the entry.
 fn seek(
     work: &mut [u8],
-    n: usize,
     slots: usize,
+    n: usize,
     tokens: usize,
     place: usize,
     removed: usize,
@@ -198,8 +198,8 @@ fn seek(
     t: usize,
     width: usize,
 ) -> usize
-    requires { ⌜ (n ≤ slots) × (slots ≤ maxSlots) × (notesSize slots ≤ length (now work)) × (i < slots) × (tokens ≤ slots) × Started (nodesIn slots (now work)) n tokens (startsIn slots (now work)) × (t ≤ 65535) × (place ≤ 65535) × (removed ≤ 65535) × (inserted ≤ 65535) × Few n (matchesIn slots (now work)) × (width ≡ getD (widthsIn slots (now work)) (slots + i) 0) ⌝ }
-    ensures { λ r. ⌜ Seeks (nodesIn slots (now (work .entry))) (widthsIn slots (now (work .entry))) n tokens slots place removed inserted i t (matchesIn slots (now (work .entry))) (matchesIn slots (now (work .exit))) × Few n (matchesIn slots (now (work .exit))) × Viewed slots (now (work .exit)) (nodesIn slots (now (work .entry))) (endsIn slots (now (work .entry))) (widthsIn slots (now (work .entry))) (startsIn slots (now (work .entry))) (matchesIn slots (now (work .exit))) × (r ≡ getD (matchesIn slots (now (work .exit))) i 0) × (r ≤ n) ⌝ }
+    requires { ⌜ (n ≤ slots) × (slots ≤ maxSlots) × (notesSize slots ≤ length (now work)) × (i < slots) × Started (nodesIn slots (now work)) n tokens (startsIn slots (now work)) × (t ≤ 65535) × (place ≤ 65535) × (removed ≤ 65535) × (inserted ≤ 65535) × Few n (matchesIn slots (now work)) × (width ≡ getD (widthsIn slots (now work)) (slots + i) 0) ⌝ }
+    ensures { λ r. ⌜ Seeks (nodesIn slots (now (work .entry))) (widthsIn slots (now (work .entry))) n tokens slots place removed inserted i t (matchesIn slots (now (work .entry))) (matchesIn slots (now (work .exit))) × Few n (matchesIn slots (now (work .exit))) × Viewed slots (now (work .exit)) (nodesIn slots (now (work .entry))) (endsIn slots (now (work .entry))) (widthsIn slots (now (work .entry))) (startsIn slots (now (work .entry))) (matchesIn slots (now (work .exit))) × (r ≡ getD (matchesIn slots (now (work .exit))) i 0) ⌝ }
 {
     if width == 0 {
         return notes::match_of(work, slots, i);
@@ -212,7 +212,7 @@ fn seek(
         }
     }
     let x = notes::symbol_in(work, slots, slots + i);
-    let v = source(work, n, slots, tokens, place, removed, inserted, t, x);
+    let v = source(work, slots, n, tokens, place, removed, inserted, t, x);
     notes::set_match(work, slots, i, v);
     v
 }
@@ -239,8 +239,8 @@ fn is_apart(t: usize, width: usize, place: usize, inserted: usize) -> bool
 // it shows that the entries stay below n without knowing so.
 fn reach(
     work: &[u8],
-    n: usize,
     slots: usize,
+    n: usize,
     k: usize,
     place: usize,
     inserted: usize,
@@ -271,7 +271,7 @@ struct Next {
 // Behind the new node i alone, which starts with token t.
 fn step(work: &[u8], slots: usize, i: usize, t: usize) -> Next
     requires { ⌜ (slots ≤ maxSlots) × (notesSize slots ≤ length (now work)) × (i < slots) × (t ≤ 65535) ⌝ }
-    ensures { λ r. ⌜ Stepped (nodesIn slots (now (work .entry))) slots i t (r .node) (r .token) × (r .node ≡ i + 1) ⌝ }
+    ensures { λ r. ⌜ Stepped (nodesIn slots (now (work .entry))) slots i t (r .node) (r .token) ⌝ }
 {
     if notes::production_in(work, slots, slots + i) != 0 {
         return Next {
@@ -288,8 +288,8 @@ fn step(work: &[u8], slots: usize, i: usize, t: usize) -> Next
 // The new node i, which starts with token t.
 fn turn(
     work: &mut [u8],
-    n: usize,
     slots: usize,
+    n: usize,
     k: usize,
     tokens: usize,
     place: usize,
@@ -298,14 +298,14 @@ fn turn(
     i: usize,
     t: usize,
 ) -> Next
-    requires { ⌜ (n ≤ slots) × (k ≤ slots) × (slots ≤ maxSlots) × (notesSize slots ≤ length (now work)) × (i < k) × (tokens ≤ slots) × Started (nodesIn slots (now work)) n tokens (startsIn slots (now work)) × (t ≤ 65535) × (place ≤ 65535) × (removed ≤ 65535) × (inserted ≤ 65535) × Rising (endsIn slots (now work)) 0 n × Rising (endsIn slots (now work)) slots (slots + k) × Few n (matchesIn slots (now work)) ⌝ }
-    ensures { λ r. ⌜ Turned (nodesIn slots (now (work .entry))) (endsIn slots (now (work .entry))) (widthsIn slots (now (work .entry))) n tokens slots place removed inserted i t (matchesIn slots (now (work .entry))) (r .node) (r .token) (matchesIn slots (now (work .exit))) × Few n (matchesIn slots (now (work .exit))) × Viewed slots (now (work .exit)) (nodesIn slots (now (work .entry))) (endsIn slots (now (work .entry))) (widthsIn slots (now (work .entry))) (startsIn slots (now (work .entry))) (matchesIn slots (now (work .exit))) × (i < r .node) × (r .node ≤ k) ⌝ }
+    requires { ⌜ (n ≤ slots) × (k ≤ slots) × (slots ≤ maxSlots) × (notesSize slots ≤ length (now work)) × (i < k) × Started (nodesIn slots (now work)) n tokens (startsIn slots (now work)) × (t ≤ 65535) × (place ≤ 65535) × (removed ≤ 65535) × (inserted ≤ 65535) × Rising (endsIn slots (now work)) 0 n × Rising (endsIn slots (now work)) slots (slots + k) × Few n (matchesIn slots (now work)) ⌝ }
+    ensures { λ r. ⌜ Turned (nodesIn slots (now (work .entry))) (endsIn slots (now (work .entry))) (widthsIn slots (now (work .entry))) n tokens slots place removed inserted i t (matchesIn slots (now (work .entry))) (r .node) (r .token) (matchesIn slots (now (work .exit))) × Few n (matchesIn slots (now (work .exit))) × Viewed slots (now (work .exit)) (nodesIn slots (now (work .entry))) (endsIn slots (now (work .entry))) (widthsIn slots (now (work .entry))) (startsIn slots (now (work .entry))) (matchesIn slots (now (work .exit))) × (r .node ≤ k) ⌝ }
 {
     let width = notes::width_of(work, slots, slots + i);
     let v = seek(
         work,
-        n,
         slots,
+        n,
         tokens,
         place,
         removed,
@@ -317,9 +317,9 @@ fn turn(
     if v == 0 {
         return step(work, slots, i, t);
     }
-    let stop = reach(work, n, slots, k, place, inserted, i, t, width, v);
+    let stop = reach(work, slots, n, k, place, inserted, i, t, width, v);
     if stop == 0 {
-        hand_on(work, n, slots, k, slots + i, v - 1);
+        hand_on(work, slots, n, k, slots + i, v - 1);
         return step(work, slots, i, t);
     }
     carry(work, slots, i, stop, v);
@@ -332,22 +332,22 @@ fn turn(
 // Goes through the k new nodes; the root first.
 fn go_through(
     work: &mut [u8],
-    n: usize,
     slots: usize,
+    n: usize,
     k: usize,
     tokens: usize,
     place: usize,
     removed: usize,
     inserted: usize,
 )
-    requires { ⌜ (1 ≤ n) × (1 ≤ k) × (n ≤ slots) × (k ≤ slots) × (slots ≤ maxSlots) × (notesSize slots ≤ length (now work)) × (tokens ≤ slots) × Started (nodesIn slots (now work)) n tokens (startsIn slots (now work)) × (place ≤ 65535) × (removed ≤ 65535) × (inserted ≤ 65535) × Rising (endsIn slots (now work)) 0 n × Rising (endsIn slots (now work)) slots (slots + k) × Blank (matchesIn slots (now work)) × Leaved (nodesIn slots (now work)) (endsIn slots (now work)) (widthsIn slots (now work)) slots (slots + k) ⌝ }
+    requires { ⌜ (1 ≤ n) × (n ≤ slots) × (k ≤ slots) × (slots ≤ maxSlots) × (notesSize slots ≤ length (now work)) × Started (nodesIn slots (now work)) n tokens (startsIn slots (now work)) × (place ≤ 65535) × (removed ≤ 65535) × (inserted ≤ 65535) × Rising (endsIn slots (now work)) 0 n × Rising (endsIn slots (now work)) slots (slots + k) × Blank (matchesIn slots (now work)) × Leaved (nodesIn slots (now work)) (endsIn slots (now work)) (widthsIn slots (now work)) slots (slots + k) ⌝ }
     ensures { λ _. ⌜ Matches (nodesIn slots (now (work .entry))) n slots k (endsIn slots (now (work .entry))) (widthsIn slots (now (work .entry))) tokens (startsIn slots (now (work .entry))) place removed inserted (matchesIn slots (now (work .exit))) × Few n (matchesIn slots (now (work .exit))) × Viewed slots (now (work .exit)) (nodesIn slots (now (work .entry))) (endsIn slots (now (work .entry))) (widthsIn slots (now (work .entry))) (startsIn slots (now (work .entry))) (matchesIn slots (now (work .exit))) ⌝ }
 {
     hand(work, slots, slots, 0);
     let mut i: usize = 0;
     let mut t: usize = 0;
     while i < k {
-        let next = turn(work, n, slots, k, tokens, place, removed, inserted, i, t);
+        let next = turn(work, slots, n, k, tokens, place, removed, inserted, i, t);
         i = next.node;
         t = next.token;
     }
@@ -356,20 +356,20 @@ fn go_through(
 // For each of the k new nodes 1 + the index of the old node whose slot it keeps, or 0. The old tree's n nodes stand first and the new tree's from node `slots` on.
 pub fn match_nodes(
     work: &mut [u8],
-    n: usize,
     slots: usize,
+    n: usize,
     k: usize,
     rows: &[u8],
     place: usize,
     removed: usize,
     inserted: usize,
 )
-    requires { ⌜ Built (now rows) (nodesIn slots (now work)) n 0 × Built (now rows) (nodesIn slots (now work)) k slots × (trees (treeIn (now rows) (nodesIn slots (now work)) k slots) ≡ 1) × (1 ≤ n) × (1 ≤ k) × (n ≤ slots) × (k ≤ slots) × (slots ≤ maxSlots) × (notesSize slots ≤ length (now work)) × (place ≤ 65535) × (removed ≤ 65535) × (inserted ≤ 65535) ⌝ }
+    requires { ⌜ Built (now rows) (nodesIn slots (now work)) n 0 × Built (now rows) (nodesIn slots (now work)) k slots × (trees (treeIn (now rows) (nodesIn slots (now work)) k slots) ≡ 1) × (1 ≤ n) × (n ≤ slots) × (k ≤ slots) × (slots ≤ maxSlots) × (notesSize slots ≤ length (now work)) × (place ≤ 65535) × (removed ≤ 65535) × (inserted ≤ 65535) ⌝ }
     ensures { λ _. ⌜ Matching (now (rows .entry)) (nodesIn slots (now (work .entry))) n slots k place removed inserted (matchesIn slots (now (work .exit))) × Few n (matchesIn slots (now (work .exit))) × (nodesIn slots (now (work .exit)) ≡ nodesIn slots (now (work .entry))) ⌝ }
 {
     notes::clear(work, slots);
     measure(work, slots, 0, n, rows);
     measure(work, slots, slots, k, rows);
-    let tokens = mark_starts(work, n, slots);
-    go_through(work, n, slots, k, tokens, place, removed, inserted);
+    let tokens = mark_starts(work, slots, n);
+    go_through(work, slots, n, k, tokens, place, removed, inserted);
 }

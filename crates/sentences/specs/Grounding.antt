@@ -1,5 +1,5 @@
 -- What the parse of the new sentence stands on, and what its verdict says.
-use Prim.Native.Nat.{ℕ, zero, suc, _+_, _-_, _*_, _<_}
+use Prim.Native.Nat.{ℕ, zero, suc, _+_, _*_, _<_}
 use mathlib.Core.Path.{_≡_, ap, _∙_}
 use mathlib.Core.List.{List, [], _∷_, _++_}
 use lib.ListN.{length, take, drop, take-append-drop}
@@ -80,16 +80,15 @@ bytes-of (k ∷ w) l (Each.cons x e) (suc (suc (suc (suc (suc i))))) = bytes-of 
 
 -- ---- the part of `out` that has them
 
--- the first r tokens of out, lent
+-- the first r tokens of out
 abbrev pub partOf : List ℕ → ℕ → List ℕ
-partOf out r = take (tokenSize * r - 0) (drop 0 out)
+partOf out r = take (tokenSize * r) out
 
 module _ {t : ℕ} (few : t < 256) (w : List Token) (good : Each (Good t) w) {out out' : List ℕ} {r : ℕ} (a : Added w out out' 0 r) where
   part-is : partOf out' r ≡ tokenBytes w
   part-is =
-      let z : tokenSize * r - 0 ≡ tokenSize * r = omega arith in
       let e : out' ≡ tokenBytes w ++ drop (tokenSize * r) out = a .is in
-      rw (z, e) (take-at (tokenBytes w) (drop (tokenSize * r) out) (tokenSize * r) (omega (arith, length-token-bytes w, a .count)))
+      rw e (take-at (tokenBytes w) (drop (tokenSize * r) out) (tokenSize * r) (omega (arith, length-token-bytes w, a .count)))
 
   part-long : length (partOf out' r) ≡ tokenSize * r
   part-long = omega (arith, ap length part-is, length-token-bytes w, a .count)

@@ -6,7 +6,6 @@ ghost use mathlib.Core.List.{_∷_};
 ghost use lib.ListN.{length, take, drop};
 ghost use Rattle.base.specs.Bytes.{leBytes};
 ghost use Rattle.base.specs.Blocks.{copied};
-ghost use Rattle.trees.specs.Area.{maxSlots};
 ghost use Rattle.trees.specs.Coded.{nodeSize};
 ghost use Rattle.plain.specs.Tokens.{tokenSize, tokensFrom};
 ghost use Rattle.sentences.specs.Adding.{Added};
@@ -32,7 +31,7 @@ fn put_token(out: &mut [u8], at: usize, kind: usize, tag: usize)
 
 // Writes the tokens of the leaves among n nodes, from node `from` on: the first one as token `at`, the last one before token `end`. The tokens stand behind the nodes, from byte `text` on.
 fn give(work: &mut [u8], n: usize, from: usize, text: usize, at: usize, end: usize) -> Reached
-    requires { ⌜ (n ≤ maxSlots) × (from ≤ n) × (at ≤ end) × (nodeSize * n ≤ text) × (text + tokenSize * end ≤ length (now work)) ⌝ }
+    requires { ⌜ (from ≤ n) × (at ≤ end) × (nodeSize * n ≤ text) × (text + tokenSize * end ≤ length (now work)) ⌝ }
     ensures { λ r. ⌜ Gave (now (work .entry)) n from (drop text (now (work .entry))) at end (r .node) (r .token) (drop text (now (work .exit))) × Fronted text (now (work .entry)) (now (work .exit)) × (r .node ≤ n) × (r .token ≤ end) ⌝ }
 {
     let mut i = from;
@@ -57,7 +56,7 @@ fn give(work: &mut [u8], n: usize, from: usize, text: usize, at: usize, end: usi
 
 // The node behind k leaves, from node `from` on.
 fn skip(nodes: &[u8], n: usize, from: usize, k: usize) -> usize
-    requires { ⌜ (n ≤ maxSlots) × (from ≤ n) ⌝ }
+    requires { ⌜ (from ≤ n) ⌝ }
     ensures { λ r. ⌜ Skipped (now (nodes .entry)) n from k r 0 × (r ≤ n) ⌝ }
 {
     let mut left = k;
@@ -101,7 +100,7 @@ pub fn new_sentence(
     limit: usize,
     text: usize,
 ) -> usize
-    requires { ⌜ (n ≤ maxSlots) × (nodeSize * n ≤ text) × (length (now tokens) ≡ tokenSize * m) × (text + tokenSize * limit ≤ length (now work)) ⌝ }
+    requires { ⌜ (nodeSize * n ≤ text) × (length (now tokens) ≡ tokenSize * m) × (text + tokenSize * limit ≤ length (now work)) ⌝ }
     ensures { λ r. ⌜ NewSentence (now (work .entry)) n place removed (now (tokens .entry)) m limit (drop text (now (work .entry))) (drop text (now (work .exit))) r × Fronted text (now (work .entry)) (now (work .exit)) × (r ≤ limit) ⌝ }
 {
     let before = give(work, n, 0, text, 0, base::least(place, limit));
@@ -113,7 +112,7 @@ pub fn new_sentence(
 
 // Writes the tokens of the leaves among n nodes, `tokens` of them at most, to the output. They are put together behind the nodes, from byte `text` on.
 pub fn give_out(work: &mut [u8], n: usize, text: usize, tokens: usize, output: &mut [u8]) -> Reached
-    requires { ⌜ (n ≤ maxSlots) × (nodeSize * n ≤ text) × (text + tokenSize * tokens ≤ length (now work)) × (tokenSize * tokens ≤ length (now output)) ⌝ }
+    requires { ⌜ (nodeSize * n ≤ text) × (text + tokenSize * tokens ≤ length (now work)) × (tokenSize * tokens ≤ length (now output)) ⌝ }
     ensures { λ r. ⌜ Gave (now (work .entry)) n 0 (now (output .entry)) 0 tokens (r .node) (r .token) (now (output .exit)) ⌝ }
 {
     let reached = give(work, n, 0, text, 0, tokens);

@@ -13,9 +13,9 @@ use Rattle.grammar.specs.Forest.{Forest, size, yield}
 use Rattle.trees.specs.Area.{top, slots}
 use Rattle.edits.specs.Keeping.{Edit, Kept, before, after, symbol, own, At, Node, Keeps, Holds, Holding}
 use Rattle.edits.specs.Places.{at-number, at-one}
-use Rattle.edits.specs.One.{kept-one, keeps-old}
+use Rattle.edits.specs.One.{kept-one, keeps-old, keeps-node, void-below}
 use Rattle.edits.specs.Giving.{at-slot}
-use Rattle.matching.specs.Matching.{KeepsOne, keeps-node, void-below}
+use Rattle.matching.specs.Matching.{KeepsOne}
 
 -- ---- the first node of a tree that passes a test
 

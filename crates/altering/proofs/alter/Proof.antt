@@ -1,6 +1,6 @@
 use Rattle.altering.specs.Treed.{treed-sized, treed-long, treed-room}
 use Rattle.altering.specs.Outcome.{Few}
-use Rattle.altering.specs.Course.{course-ground, course-syntax, course-room, course-fits, course-doubled, course-settled, few-altered}
+use Rattle.altering.specs.Course.{sentence-long, course-ground, course-syntax, course-room, course-fits, course-doubled, course-settled, few-altered}
 use Rattle.plain.specs.Outcome.{is-done}
 use mathlib.Core.Path.{refl}
 use borrow.Author.Needs.{needs}
@@ -17,7 +17,7 @@ add-new-sentence : tie.Need-add-new-sentence
 add-new-sentence c = search needs
 
 new-sentence-requires : tie.Need-new-sentence-requires
-new-sentence-requires c κs = let f = treed-sized _ _ _ _ _ _ _ _ _ (c .before .before .before .before .before .before .pre .2) in (search needs, search needs, search needs, search needs)
+new-sentence-requires c κs = let f = treed-sized _ _ _ _ _ _ _ _ _ (c .before .before .before .before .before .before .pre .2) in (search needs, sentence-long _ (c .before .before .before .before .before .before .pre .3), search needs)
 
 mul-parse : tie.Need-mul-parse
 mul-parse c = search needs
@@ -38,7 +38,7 @@ enum-known-k : tie.Need-enum-known-k
 enum-known-k c = search needs
 
 settle-requires : tie.Need-settle-requires
-settle-requires c κs = let f = treed-sized _ _ _ _ _ _ _ _ _ (c .before .before .before .before .before .before .before .before .before .before .before .before .before .before .before .before .before .before .pre .2) in (course-doubled _ _ _ _ _ _ _ _ _ _ _ _ _ (c .before .before .before .before .before .before .before .before .before .before .before .before .before .before .before .before .before .before .pre .0) (c .before .before .before .before .before .before .before .before .before .before .before .before .before .before .before .before .before .before .pre .2) (c .before .before .before .before .before .before .before .before .before .before .before .before .before .before .before .before .before .before .pre .3) (c .before .before .before .before .before .before .before .before .before .before .before .new-sentence .ensures .1) (c .before .before .before .before .before .before .before .before .before .before .before .new-sentence .ensures .0) refl (search needs) (c .before .before .before .before .before .before .before .before .before .before .before .before .before .before .before .before .before .before .pre .5) _ (is-done _ (c .before .before .before .before .before .before .before .parse .ensures) (search needs)) (treed-long _ _ _ _ _ _ _ _ _ (c .before .before .before .before .before .before .before .before .before .before .before .before .before .before .before .before .before .before .pre .2) (c .before .before .before .before .before .before .before .before .before .before .before .before .before .before .before .before .before .before .pre .6)), f .1, f .3, treed-room _ _ _ _ _ _ _ _ _ (c .before .before .before .before .before .before .before .before .before .before .before .before .before .before .before .before .before .before .pre .2) _ (c .before .before .before .before .before .before .before .before .before .before .before .before .before .before .before .before .before .before .pre .6) (search needs))
+settle-requires c κs = let f = treed-sized _ _ _ _ _ _ _ _ _ (c .before .before .before .before .before .before .before .before .before .before .before .before .before .before .before .before .before .before .pre .2) in (course-doubled _ _ _ _ _ _ _ _ _ _ _ _ _ (c .before .before .before .before .before .before .before .before .before .before .before .before .before .before .before .before .before .before .pre .0) (c .before .before .before .before .before .before .before .before .before .before .before .before .before .before .before .before .before .before .pre .2) (c .before .before .before .before .before .before .before .before .before .before .before .before .before .before .before .before .before .before .pre .3) (c .before .before .before .before .before .before .before .before .before .before .before .new-sentence .ensures .1) (c .before .before .before .before .before .before .before .before .before .before .before .new-sentence .ensures .0) refl (search needs) (c .before .before .before .before .before .before .before .before .before .before .before .before .before .before .before .before .before .before .pre .4) _ (is-done _ (c .before .before .before .before .before .before .before .parse .ensures) (search needs)) (treed-long _ _ _ _ _ _ _ _ _ (c .before .before .before .before .before .before .before .before .before .before .before .before .before .before .before .before .before .before .pre .2) (c .before .before .before .before .before .before .before .before .before .before .before .before .before .before .before .before .before .before .pre .5)), treed-room _ _ _ _ _ _ _ _ _ (c .before .before .before .before .before .before .before .before .before .before .before .before .before .before .before .before .before .before .pre .2) _ (c .before .before .before .before .before .before .before .before .before .before .before .before .before .before .before .before .before .before .pre .5) (search needs))
 
 enum-known-token : tie.Need-enum-known-token
 enum-known-token c = search needs
@@ -53,7 +53,7 @@ same-length-2 : tie.Need-same-length-2
 same-length-2 c = search needs
 
 returns : tie.Need-returns
-returns c = let f = treed-sized _ _ _ _ _ _ _ _ _ (c .before .before .before .before .before .before .before .before .before .before .before .before .before .before .before .before .before .before .before .before .before .before .before .pre .2) in (course-settled _ _ _ _ _ _ _ _ _ _ _ _ _ (c .before .before .before .before .before .before .before .before .before .before .before .before .before .before .before .before .before .before .before .before .before .before .before .pre .0) (c .before .before .before .before .before .before .before .before .before .before .before .before .before .before .before .before .before .before .before .before .before .before .before .pre .2) (c .before .before .before .before .before .before .before .before .before .before .before .before .before .before .before .before .before .before .before .before .before .before .before .pre .3) (c .before .before .before .before .before .before .before .before .before .before .before .before .before .before .before .before .new-sentence .ensures .1) (c .before .before .before .before .before .before .before .before .before .before .before .before .before .before .before .before .new-sentence .ensures .0) refl (search needs) (c .before .before .before .before .before .before .before .before .before .before .before .before .before .before .before .before .before .before .before .before .before .before .before .pre .5) _ (is-done _ (c .before .before .before .before .before .before .before .before .before .before .before .before .parse .ensures) (search needs)) (treed-long _ _ _ _ _ _ _ _ _ (c .before .before .before .before .before .before .before .before .before .before .before .before .before .before .before .before .before .before .before .before .before .before .before .pre .2) (c .before .before .before .before .before .before .before .before .before .before .before .before .before .before .before .before .before .before .before .before .before .before .before .pre .6)) (c .before .before .before .before .settle .ensures .0), few-altered (c .before .before .before .before .settle .ensures .1) (c .before .before .before .before .settle .ensures .2) (course-fits _ _ _ _ _ _ _ _ _ _ _ _ _ (c .before .before .before .before .before .before .before .before .before .before .before .before .before .before .before .before .before .before .before .before .before .before .before .pre .0) (c .before .before .before .before .before .before .before .before .before .before .before .before .before .before .before .before .before .before .before .before .before .before .before .pre .2) (c .before .before .before .before .before .before .before .before .before .before .before .before .before .before .before .before .before .before .before .before .before .before .before .pre .3) (c .before .before .before .before .before .before .before .before .before .before .before .before .before .before .before .before .new-sentence .ensures .1) (c .before .before .before .before .before .before .before .before .before .before .before .before .before .before .before .before .new-sentence .ensures .0) refl (search needs) (c .before .before .before .before .before .before .before .before .before .before .before .before .before .before .before .before .before .before .before .before .before .before .before .pre .5) _ (is-done _ (c .before .before .before .before .before .before .before .before .before .before .before .before .parse .ensures) (search needs)) (treed-long _ _ _ _ _ _ _ _ _ (c .before .before .before .before .before .before .before .before .before .before .before .before .before .before .before .before .before .before .before .before .before .before .before .pre .2) (c .before .before .before .before .before .before .before .before .before .before .before .before .before .before .before .before .before .before .before .before .before .before .before .pre .6))) (f .1))
+returns c = let f = treed-sized _ _ _ _ _ _ _ _ _ (c .before .before .before .before .before .before .before .before .before .before .before .before .before .before .before .before .before .before .before .before .before .before .before .pre .2) in (course-settled _ _ _ _ _ _ _ _ _ _ _ _ _ (c .before .before .before .before .before .before .before .before .before .before .before .before .before .before .before .before .before .before .before .before .before .before .before .pre .0) (c .before .before .before .before .before .before .before .before .before .before .before .before .before .before .before .before .before .before .before .before .before .before .before .pre .2) (c .before .before .before .before .before .before .before .before .before .before .before .before .before .before .before .before .before .before .before .before .before .before .before .pre .3) (c .before .before .before .before .before .before .before .before .before .before .before .before .before .before .before .before .new-sentence .ensures .1) (c .before .before .before .before .before .before .before .before .before .before .before .before .before .before .before .before .new-sentence .ensures .0) refl (search needs) (c .before .before .before .before .before .before .before .before .before .before .before .before .before .before .before .before .before .before .before .before .before .before .before .pre .4) _ (is-done _ (c .before .before .before .before .before .before .before .before .before .before .before .before .parse .ensures) (search needs)) (treed-long _ _ _ _ _ _ _ _ _ (c .before .before .before .before .before .before .before .before .before .before .before .before .before .before .before .before .before .before .before .before .before .before .before .pre .2) (c .before .before .before .before .before .before .before .before .before .before .before .before .before .before .before .before .before .before .before .before .before .before .before .pre .5)) (c .before .before .before .before .settle .ensures .0), few-altered (c .before .before .before .before .settle .ensures .1) (c .before .before .before .before .settle .ensures .2) (course-fits _ _ _ _ _ _ _ _ _ _ _ _ _ (c .before .before .before .before .before .before .before .before .before .before .before .before .before .before .before .before .before .before .before .before .before .before .before .pre .0) (c .before .before .before .before .before .before .before .before .before .before .before .before .before .before .before .before .before .before .before .before .before .before .before .pre .2) (c .before .before .before .before .before .before .before .before .before .before .before .before .before .before .before .before .before .before .before .before .before .before .before .pre .3) (c .before .before .before .before .before .before .before .before .before .before .before .before .before .before .before .before .new-sentence .ensures .1) (c .before .before .before .before .before .before .before .before .before .before .before .before .before .before .before .before .new-sentence .ensures .0) refl (search needs) (c .before .before .before .before .before .before .before .before .before .before .before .before .before .before .before .before .before .before .before .before .before .before .before .pre .4) _ (is-done _ (c .before .before .before .before .before .before .before .before .before .before .before .before .parse .ensures) (search needs)) (treed-long _ _ _ _ _ _ _ _ _ (c .before .before .before .before .before .before .before .before .before .before .before .before .before .before .before .before .before .before .before .before .before .before .before .pre .2) (c .before .before .before .before .before .before .before .before .before .before .before .before .before .before .before .before .before .before .before .before .before .before .before .pre .5))) (f .1))
 
 same-length-3 : tie.Need-same-length-3
 same-length-3 c = search needs

@@ -1,11 +1,12 @@
 use Rattle.altering.specs.Altering.{small, lists-old, lists-new, one-root, slots-old, fit-then, counts-then, gives-then, laid-spread, laid-fed, settled-all, settled-few}
+use Rattle.keeping.specs.Marking.{keeps-few}
 use mathlib.Core.Path.{refl}
 use borrow.Author.Needs.{needs}
 use Rattle.altering.proofs.settle.Statement.{statement}
 use Rattle.altering.proofs.settle.Tie as tie
 
 match-nodes-requires : tie.Need-match-nodes-requires
-match-nodes-requires c κs = let x = small _ _ _ _ _ _ _ _ _ _ _ _ _ (c .before .before .before .before .pre .0) in (lists-old _ _ _ _ _ _ _ _ _ _ _ _ _ (c .before .before .before .before .pre .0), lists-new _ _ _ _ _ _ _ _ _ _ _ _ _ (c .before .before .before .before .pre .0), one-root _ _ _ _ _ _ _ _ _ _ _ _ _ (c .before .before .before .before .pre .0), search needs, search needs, search needs, search needs, search needs, search needs, search needs, search needs, search needs)
+match-nodes-requires c κs = let x = small _ _ _ _ _ _ _ _ _ _ _ _ _ (c .before .before .before .before .pre .0) in (lists-old _ _ _ _ _ _ _ _ _ _ _ _ _ (c .before .before .before .before .pre .0), lists-new _ _ _ _ _ _ _ _ _ _ _ _ _ (c .before .before .before .before .pre .0), one-root _ _ _ _ _ _ _ _ _ _ _ _ _ (c .before .before .before .before .pre .0), search needs, search needs, search needs, search needs, search needs, search needs, search needs, search needs)
 
 give-slots-requires : tie.Need-give-slots-requires
 give-slots-requires c κs = let x = small _ _ _ _ _ _ _ _ _ _ _ _ _ (c .before .before .before .before .before .before .before .before .pre .0) in (search needs, search needs, search needs, slots-old _ _ _ _ _ _ _ _ _ _ _ _ _ (c .before .before .before .before .before .before .before .before .pre .0) (c .before .before .before .match-nodes .ensures .0) (c .before .before .before .match-nodes .ensures .1), fit-then _ _ _ _ _ _ _ _ _ _ _ _ _ (c .before .before .before .before .before .before .before .before .pre .0) (c .before .before .before .match-nodes .ensures .0) (c .before .before .before .match-nodes .ensures .1) (c .before .before .before .match-nodes .ensures .2))
@@ -32,7 +33,7 @@ same-length-2 : tie.Need-same-length-2
 same-length-2 c = search needs
 
 returns : tie.Need-returns
-returns c = let g = (gives-then _ _ _ _ _ _ _ _ _ _ _ _ _ (c .before .before .before .before .before .before .before .before .before .before .before .before .before .before .before .before .before .pre .0) (c .before .before .before .before .before .before .before .before .before .before .before .before .match-nodes .ensures .0) (c .before .before .before .before .before .before .before .before .before .before .before .before .match-nodes .ensures .1) (c .before .before .before .before .before .before .before .before .before .before .before .before .match-nodes .ensures .2) (c .before .before .before .before .before .before .before .before .give-slots .ensures .0)) in let n = (counts-then _ _ _ _ _ _ _ _ _ _ _ _ _ (c .before .before .before .before .before .before .before .before .before .before .before .before .before .before .before .before .before .pre .0) (c .before .before .before .before .before .before .before .before .before .before .before .before .match-nodes .ensures .0) (c .before .before .before .before .before .before .before .before .before .before .before .before .match-nodes .ensures .1) (c .before .before .before .before .before .before .before .before .before .before .before .before .match-nodes .ensures .2) (c .before .before .before .before .before .before .before .before .give-slots .ensures .1)) in (settled-all _ _ _ _ _ _ _ _ _ _ _ _ _ (c .before .before .before .before .before .before .before .before .before .before .before .before .before .before .before .before .before .pre .0) (c .before .before .before .before .before .before .before .before .before .before .before .before .match-nodes .ensures .0) (c .before .before .before .before .before .before .before .before .before .before .before .before .match-nodes .ensures .1) _ g refl _ n (c .before .before .lay-out .ensures), n .few, settled-few _ _ _ _ _ _ _ _ _ _ _ _ _ (c .before .before .before .before .before .before .before .before .before .before .before .before .before .before .before .before .before .pre .0) (c .before .before .before .before .before .before .before .before .before .before .before .before .match-nodes .ensures .0) (c .before .before .before .before .before .before .before .before .before .before .before .before .match-nodes .ensures .1) _ n)
+returns c = let g = (gives-then _ _ _ _ _ _ _ _ _ _ _ _ _ (c .before .before .before .before .before .before .before .before .before .before .before .before .before .before .before .before .before .pre .0) (c .before .before .before .before .before .before .before .before .before .before .before .before .match-nodes .ensures .0) (c .before .before .before .before .before .before .before .before .before .before .before .before .match-nodes .ensures .1) (c .before .before .before .before .before .before .before .before .before .before .before .before .match-nodes .ensures .2) (c .before .before .before .before .before .before .before .before .give-slots .ensures .0)) in let n = (counts-then _ _ _ _ _ _ _ _ _ _ _ _ _ (c .before .before .before .before .before .before .before .before .before .before .before .before .before .before .before .before .before .pre .0) (c .before .before .before .before .before .before .before .before .before .before .before .before .match-nodes .ensures .0) (c .before .before .before .before .before .before .before .before .before .before .before .before .match-nodes .ensures .1) (c .before .before .before .before .before .before .before .before .before .before .before .before .match-nodes .ensures .2) (c .before .before .before .before .before .before .before .before .give-slots .ensures .1)) in (settled-all _ _ _ _ _ _ _ _ _ _ _ _ _ (c .before .before .before .before .before .before .before .before .before .before .before .before .before .before .before .before .before .pre .0) (c .before .before .before .before .before .before .before .before .before .before .before .before .match-nodes .ensures .0) (c .before .before .before .before .before .before .before .before .before .before .before .before .match-nodes .ensures .1) _ g refl _ n (c .before .before .lay-out .ensures), keeps-few n, settled-few _ _ _ _ _ _ _ _ _ _ _ _ _ (c .before .before .before .before .before .before .before .before .before .before .before .before .before .before .before .before .before .pre .0) (c .before .before .before .before .before .before .before .before .before .before .before .before .match-nodes .ensures .0) (c .before .before .before .before .before .before .before .before .before .before .before .before .match-nodes .ensures .1) _ n)
 
 pub settle-spec : {M : Type 1} → statement M
 settle-spec =

@@ -17,7 +17,7 @@ returns : tie.Need-returns
 returns c = edits-beyond _ _ _ _ _ _ _ _ _ _ _ (c .before .before .before .before .before .before .before .before .pre .1) _ (c .before .before .before .before .before .before .before .before .pre .2 .valid) (c .before .before .before .before .before .before .before .before .pre .4) (c .before .before .before .before .before .before .before .before .args .m) (c .before .before .before .before .before .before .before .before .pre .3 .sentence) _ (c .before .get16 .ensures .0) (search needs)
 
 alter-requires : tie.Need-alter-requires
-alter-requires c κs = (c .before .before .before .before .before .before .before .before .before .before .pre .0, c .before .before .before .before .before .before .before .before .before .before .pre .1, c .before .before .before .before .before .before .before .before .before .before .pre .2, c .before .before .before .before .before .before .before .before .before .before .pre .3 .sentence, c .before .before .before .before .before .before .before .before .before .before .pre .3 .long, search needs, c .before .before .before .before .before .before .before .before .before .before .pre .4)
+alter-requires c κs = (c .before .before .before .before .before .before .before .before .before .before .pre .0, c .before .before .before .before .before .before .before .before .before .before .pre .1, c .before .before .before .before .before .before .before .before .before .before .pre .2, c .before .before .before .before .before .before .before .before .before .before .pre .3 .sentence, search needs, c .before .before .before .before .before .before .before .before .before .before .pre .4)
 
 enum-known-r : tie.Need-enum-known-r
 enum-known-r c = search needs

@@ -1,13 +1,11 @@
-use Rattle.keeping.specs.Seen.{marks-room, marks-then, keeps-then}
 use mathlib.Core.Path.{_≡_}
-use Rattle.keeping.specs.Seen.{seen-here, seen-more, match-fits, slot-then, old-now, fit-now}
+use Rattle.keeping.specs.Seen.{seen-here, seen-more, match-fits, slot-then, old-now, fit-now, marks-room, marks-then, keeps-then}
 use Prim.Native.Nat.{_-_, _≤_}
 use lib.ListN.{length}
 use Rattle.trees.specs.Area.{maxSlots}
 use Rattle.notes.specs.Views.{notesSize, nodesIn, matchesIn, marksIn, Seen}
 use Rattle.keeping.specs.Matched.{Old, Fit, fit-few}
-use Rattle.keeping.specs.Marking.{Marks, Keeps, marks-none, keeps-none, marks-more, keeps-more, marks-all, keeps-all}
-use Rattle.keeping.specs.Seen.{seen-more, match-fits, slot-then}
+use Rattle.keeping.specs.Marking.{Marks, Keeps, kept-few, keeps-few, marks-none, keeps-none, marks-more, keeps-more, marks-all, keeps-all}
 use borrow.Author.Needs.{needs}
 use native.Mathlib.Omega.{arith}
 use Rattle.keeping.proofs.hold_all.Statement.{statement}
@@ -44,7 +42,7 @@ hold-requires : tie.Need-hold-requires Inv-loop μ-loop
 hold-requires c κs = let u = c .before .before .before .before .loop .inv in let e = slot-then (u .6) _ _ (c .before .held .ensures .0) in let l = fit-few (c .before .before .before .before .loop .i) (u .4) (search needs) in (search needs, search needs, omega (arith, e))
 
 add-kept : tie.Need-add-kept Inv-loop μ-loop
-add-kept c = search needs
+add-kept c = let k = keeps-few (c .before .before .before .before .before .before .before .loop .inv .8) in let l = kept-few (c .before .before .before .before .held .result) (c .before .before .hold .ensures .1) in search needs
 
 add-i : tie.Need-add-i Inv-loop μ-loop
 add-i c = search needs
@@ -65,7 +63,7 @@ loop-again c =
       search needs,
       seen-more (u .6) (c .before .before .hold .ensures .0),
       marks-more _ _ _ _ e (marks-room _ _ _ (omega arith)) (c .before .before .hold .ensures .0 .marks) (u .7),
-      keeps-more _ _ _ _ e (c .before .before .hold .ensures .1) (search needs) (u .8),
+      keeps-more _ _ _ _ e (c .before .before .hold .ensures .1) (u .8),
       search needs,
     )
 

@@ -1,3 +1,6 @@
+use Rattle.base.specs.Blocks.{length-zeros}
+use mathlib.Core.Path.{ap, _∙_}
+use lib.ListN.{length}
 use Rattle.kindlesap.specs.Judging.{bounds, have-rows, found-useless, found-conflict, found-fit}
 use borrow.Author.Needs.{needs}
 use Rattle.kindlesap.proofs.judge.Statement.{statement}
@@ -16,7 +19,7 @@ returns : tie.Need-returns
 returns c = found-useless _ _ _ _ _ (c .before .before .before .before .before .before .before .before .before .before .pre .0) _ (c .before .before .before .before .before .analyse .ensures) _ _ (c .before .useless .ensures) (c .if1 .taken)
 
 predict-requires : tie.Need-predict-requires
-predict-requires c κs = let h = bounds _ _ _ _ _ (c .before .before .before .before .before .before .before .before .before .before .before .before .pre .0) in (search needs, search needs, search needs, search needs, search needs, have-rows _ _ _ _ _ (c .before .before .before .before .before .before .before .before .before .before .before .before .pre .0) _ (c .before .before .before .before .before .before .before .analyse .ensures))
+predict-requires c κs = let h = bounds _ _ _ _ _ (c .before .before .before .before .before .before .before .before .before .before .before .before .pre .0) in let l = ap length (c .before .before .before .before .before .before .before .before .before .before .before .before .pre .2) ∙ length-zeros _ in (search needs, search needs, search needs, search needs, search needs, have-rows _ _ _ _ _ (c .before .before .before .before .before .before .before .before .before .before .before .before .pre .0) _ (c .before .before .before .before .before .before .before .analyse .ensures))
 
 same-length-2 : tie.Need-same-length-2
 same-length-2 c = search needs

@@ -1,4 +1,4 @@
-use Rattle.kindlesap.specs.Judging.{got-formed, got-few, opened-good, opened-bad}
+use Rattle.kindlesap.specs.Judging.{got-formed, opened-good, opened-bad}
 use borrow.Author.Needs.{needs}
 use Rattle.kindlesap.proofs.read_back.Statement.{statement}
 use Rattle.kindlesap.proofs.read_back.Tie as tie
@@ -10,7 +10,7 @@ enum-known-head : tie.Need-enum-known-head
 enum-known-head c = search needs
 
 read-read-requires : tie.Need-read-read-requires
-read-read-requires c κs = (search (got-formed, needs), search (got-few, needs))
+read-read-requires c κs = search (got-formed, needs)
 
 enum-known-offset : tie.Need-enum-known-offset
 enum-known-offset c = search needs

@@ -36,10 +36,10 @@ loop-again-2 : tie.Need-loop-again-2 Inv-loop μ-loop
 loop-again-2 c = (search needs, sought-void _ _ _ _ _ _ (c .before .width-of .ensures .0) (search needs) (c .before .before .before .before .before .loop .inv .1))
 
 returns : tie.Need-returns Inv-loop μ-loop
-returns c = (found-some _ _ _ _ _ _ _ _ (search needs) (search needs) (c .before .before .before .symbol-in .ensures .0) (search needs) (c .before .width-of .ensures .0) (search needs), search needs)
+returns c = found-some _ _ _ _ _ _ _ _ (search needs) (search needs) (c .before .before .before .symbol-in .ensures .0) (search needs) (c .before .width-of .ensures .0) (search needs)
 
 returns-2 : tie.Need-returns-2 Inv-loop μ-loop
-returns-2 c = (found-none _ _ _ _ _ _ (c .before .loop .inv .1) (search needs), search needs)
+returns-2 c = found-none _ _ _ _ _ _ (c .before .loop .inv .1) (search needs)
 
 pub find-spec : {M : Type 1} → statement M
 find-spec =

@@ -9,12 +9,12 @@ use Rattle.matching.proofs.hand_on.Statement.{statement}
 use Rattle.matching.proofs.hand_on.Tie as tie
 
 abbrev Inv-loop : tie.InvT-loop
-Inv-loop work₀ n slots k i j last stop c₀ d₀ work c d =
+Inv-loop work₀ slots n k i j last stop c₀ d₀ work c d =
     (last ≤ slots + k) × (stop ≤ n) × (i < c) × (j < d) × (length work ≡ length work₀) × HandingAt (endsIn slots work₀) (widthsIn slots work₀) slots i j (matchesIn slots work₀) c d (matchesIn slots work) × Few n (matchesIn slots work)
     × Viewed slots work (nodesIn slots work₀) (endsIn slots work₀) (widthsIn slots work₀) (startsIn slots work₀) (matchesIn slots work)
 
 abbrev μ-loop : tie.MeasureT-loop
-μ-loop work₀ n slots k i j last stop c₀ d₀ work c d = last - c
+μ-loop work₀ slots n k i j last stop c₀ d₀ work c d = last - c
 
 end-of-requires : tie.Need-end-of-requires Inv-loop μ-loop
 end-of-requires c κs = search needs

@@ -9,11 +9,11 @@ use Rattle.matching.proofs.mark_starts.Statement.{statement}
 use Rattle.matching.proofs.mark_starts.Tie as tie
 
 abbrev Inv-loop : tie.InvT-loop
-Inv-loop work₀ n slots t₀ i₀ work t i = (i ≤ n) × (t ≤ i) × (length work ≡ length work₀) × Started (nodesIn slots work₀) i t (startsIn slots work)
+Inv-loop work₀ slots n t₀ i₀ work t i = (i ≤ n) × (t ≤ i) × (length work ≡ length work₀) × Started (nodesIn slots work₀) i t (startsIn slots work)
     × Viewed slots work (nodesIn slots work₀) (endsIn slots work₀) (widthsIn slots work₀) (startsIn slots work) (matchesIn slots work₀)
 
 abbrev μ-loop : tie.MeasureT-loop
-μ-loop work₀ n slots t₀ i₀ work t i = n - i
+μ-loop work₀ slots n t₀ i₀ work t i = n - i
 
 loop-holds : tie.Need-loop-holds Inv-loop μ-loop
 loop-holds c = (search needs, search needs, search needs, started-none _ _ (search needs), viewed-all _ _)
@@ -46,7 +46,7 @@ same-length : tie.Need-same-length Inv-loop μ-loop
 same-length c = search needs
 
 returns : tie.Need-returns Inv-loop μ-loop
-returns c = (started-end (c .before .loop .inv .3) (search needs) (search needs), c .before .loop .inv .4, search needs)
+returns c = (started-end (c .before .loop .inv .3) (search needs) (search needs), c .before .loop .inv .4)
 
 pub mark-starts-spec : {M : Type 1} → statement M
 mark-starts-spec =

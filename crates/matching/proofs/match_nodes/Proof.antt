@@ -24,7 +24,7 @@ go-through-requires c κs =
     let w = starts-on v (c .before .before .before .mark-starts .ensures .1) in
     let g = gauged-out (c .before .before .before .before .before .before .before .before .before .before .before .before .before .before .before .clear .ensures) _ _ (c .before .before .before .before .before .before .before .before .before .before .before .measure .ensures .0) in
     let h = gauged-out u _ _ (c .before .before .before .before .before .before .before .measure2 .ensures .0) in
-    (search needs, search needs, search needs, search needs, search needs, search needs, search needs, started-in (c .before .before .before .mark-starts .ensures .1) (c .before .before .before .mark-starts .ensures .0), search needs, search needs, search needs, rising-in (c .before .before .before .mark-starts .ensures .1) (rising-old _ _ _ _ _ g h (search needs)), rising-in (c .before .before .before .mark-starts .ensures .1) (rising-new _ _ _ _ h), blank-zeros _ _ (w .matches), leaved-in w (leaved _ _ _ _ (c .before .before .before .before .before .before .before .before .before .before .before .before .before .before .before .before .before .before .before .pre .1) (h .measured)))
+    (search needs, search needs, search needs, search needs, search needs, started-in (c .before .before .before .mark-starts .ensures .1) (c .before .before .before .mark-starts .ensures .0), search needs, search needs, search needs, rising-in (c .before .before .before .mark-starts .ensures .1) (rising-old _ _ _ _ _ g h (search needs)), rising-in (c .before .before .before .mark-starts .ensures .1) (rising-new _ _ _ _ h), blank-zeros _ _ (w .matches), leaved-in w (leaved _ _ _ _ (c .before .before .before .before .before .before .before .before .before .before .before .before .before .before .before .before .before .before .before .pre .1) (h .measured)))
 
 same-length : tie.Need-same-length
 same-length c = search needs
@@ -36,7 +36,7 @@ returns c =
     let w = starts-on v (c .before .before .before .before .before .before .mark-starts .ensures .1) in
     let g = gauged-out (c .before .before .before .before .before .before .before .before .before .before .before .before .before .before .before .before .before .before .clear .ensures) _ _ (c .before .before .before .before .before .before .before .before .before .before .before .before .before .before .measure .ensures .0) in
     let h = gauged-out u _ _ (c .before .before .before .before .before .before .before .before .before .before .measure2 .ensures .0) in
-    (matched-all _ _ _ _ _ g h (c .before .before .before .before .before .before .before .before .before .before .before .before .before .before .before .before .before .before .before .before .before .before .pre .5) (c .before .before .before .before .before .before .before .before .before .before .before .before .before .before .before .before .before .before .before .before .before .before .pre .0) (c .before .before .before .before .before .before .before .before .before .before .before .before .before .before .before .before .before .before .before .before .before .before .pre .1) (c .before .before .before .before .before .before .before .before .before .before .before .before .before .before .before .before .before .before .before .before .before .before .pre .2) (started-out v (c .before .before .before .before .before .before .mark-starts .ensures .0)) (matches-out w (c .before .before .go-through .ensures .0)), search needs, matches-on w (c .before .before .go-through .ensures .2) .nodes)
+    (matched-all _ _ _ _ _ g h (c .before .before .before .before .before .before .before .before .before .before .before .before .before .before .before .before .before .before .before .before .before .before .pre .4) (c .before .before .before .before .before .before .before .before .before .before .before .before .before .before .before .before .before .before .before .before .before .before .pre .0) (c .before .before .before .before .before .before .before .before .before .before .before .before .before .before .before .before .before .before .before .before .before .before .pre .1) (c .before .before .before .before .before .before .before .before .before .before .before .before .before .before .before .before .before .before .before .before .before .before .pre .2) (started-out v (c .before .before .before .before .before .before .mark-starts .ensures .0)) (matches-out w (c .before .before .go-through .ensures .0)), search needs, matches-on w (c .before .before .go-through .ensures .2) .nodes)
 
 pub match-nodes-spec : {M : Type 1} → statement M
 match-nodes-spec =

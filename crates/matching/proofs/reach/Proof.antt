@@ -1,7 +1,6 @@
 use borrow.Author.Tests.{not-false}
 use Rattle.matching.specs.Handing.{rise-low, rise-high}
 use Rattle.matching.specs.Matching.{Reached, reached}
-use Rattle.matching.specs.Matching.{Reached}
 use borrow.Author.Needs.{needs}
 use Rattle.matching.proofs.reach.Statement.{statement}
 use Rattle.matching.proofs.reach.Tie as tie

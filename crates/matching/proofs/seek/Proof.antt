@@ -1,5 +1,6 @@
 use Rattle.notes.specs.Views.{length-matches}
-use Rattle.matching.specs.Handing.{few-set, few-set-one, few-entry}
+use Rattle.matching.specs.Handing.{few-set, few-set-one}
+use Rattle.matching.specs.Finding.{sourced-few}
 use Rattle.matching.specs.Matching.{seeks-void, seeks-full, seeks-front}
 use Rattle.matching.specs.Noted.{viewed-all, matches-on}
 use borrow.Author.Needs.{needs}
@@ -13,7 +14,7 @@ same-length : tie.Need-same-length
 same-length c = search needs
 
 returns : tie.Need-returns
-returns c = (seeks-void _ (c .before .before .before .before .pre .11) (search needs), search needs, viewed-all _ _, search needs, few-entry _ (c .before .before .before .before .pre .10) (c .match-of .ensures .0))
+returns c = (seeks-void _ (c .before .before .before .before .pre .10) (search needs), search needs, viewed-all _ _, search needs)
 
 add-set-match : tie.Need-add-set-match
 add-set-match c = search needs
@@ -28,7 +29,7 @@ same-length-2 : tie.Need-same-length-2
 same-length-2 c = search needs
 
 returns-2 : tie.Need-returns-2
-returns-2 c = (seeks-front (search needs) (c .before .before .set-match .ensures .matches), few-set _ _ (c .before .before .before .before .before .before .before .before .pre .10) (rw length-matches (search needs)) (search needs) (c .before .before .set-match .ensures .matches), matches-on (viewed-all _ _) (c .before .before .set-match .ensures), few-set-one _ _ (c .before .before .before .before .before .before .before .before .pre .10) (rw length-matches (search needs)) (c .before .before .set-match .ensures .matches), search needs)
+returns-2 c = (seeks-front (search needs) (c .before .before .set-match .ensures .matches), few-set _ _ (c .before .before .before .before .before .before .before .before .pre .9) (rw length-matches (search needs)) (search needs) (c .before .before .set-match .ensures .matches), matches-on (viewed-all _ _) (c .before .before .set-match .ensures), few-set-one _ _ (c .before .before .before .before .before .before .before .before .pre .9) (rw length-matches (search needs)) (c .before .before .set-match .ensures .matches))
 
 add-symbol-in : tie.Need-add-symbol-in
 add-symbol-in c = search needs
@@ -40,13 +41,13 @@ source-requires : tie.Need-source-requires
 source-requires c κs = search needs
 
 set-match-requires-2 : tie.Need-set-match-requires-2
-set-match-requires-2 c κs = search needs
+set-match-requires-2 c κs = let x = sourced-few (c .before .source .ensures) in search needs
 
 same-length-3 : tie.Need-same-length-3
 same-length-3 c = search needs
 
 returns-3 : tie.Need-returns-3
-returns-3 c = (seeks-full _ _ _ (c .before .before .before .before .before .before .before .before .before .before .before .pre .11) (search needs) (c .before .before .before .before .before .before .symbol-in .ensures .0) (c .before .before .before .before .source .ensures .0) (c .before .before .set-match2 .ensures .matches), few-set _ _ (c .before .before .before .before .before .before .before .before .before .before .before .pre .10) (rw length-matches (search needs)) (search needs) (c .before .before .set-match2 .ensures .matches), matches-on (viewed-all _ _) (c .before .before .set-match2 .ensures), few-set-one _ _ (c .before .before .before .before .before .before .before .before .before .before .before .pre .10) (rw length-matches (search needs)) (c .before .before .set-match2 .ensures .matches), search needs)
+returns-3 c = let x = sourced-few (c .before .before .before .before .source .ensures) in (seeks-full _ _ _ (c .before .before .before .before .before .before .before .before .before .before .before .pre .10) (search needs) (c .before .before .before .before .before .before .symbol-in .ensures .0) (c .before .before .before .before .source .ensures) (c .before .before .set-match2 .ensures .matches), few-set _ _ (c .before .before .before .before .before .before .before .before .before .before .before .pre .9) (rw length-matches (search needs)) (search needs) (c .before .before .set-match2 .ensures .matches), matches-on (viewed-all _ _) (c .before .before .set-match2 .ensures), few-set-one _ _ (c .before .before .before .before .before .before .before .before .before .before .before .pre .9) (rw length-matches (search needs)) (c .before .before .set-match2 .ensures .matches))
 
 pub seek-spec : {M : Type 1} → statement M
 seek-spec =

@@ -13,7 +13,7 @@ add-t8 : tie.Need-add-t8
 add-t8 c = search needs
 
 returns : tie.Need-returns
-returns c = (step-inner _ _ _ _ _ (c .before .production-in .ensures .0) (search needs), search needs)
+returns c = step-inner _ _ _ _ _ (c .before .production-in .ensures .0) (search needs)
 
 add-t5 : tie.Need-add-t5
 add-t5 c = search needs
@@ -22,7 +22,7 @@ add-t6 : tie.Need-add-t6
 add-t6 c = search needs
 
 returns-2 : tie.Need-returns-2
-returns-2 c = (step-leaf _ _ _ _ _ (c .before .production-in .ensures .0) (search needs), search needs)
+returns-2 c = step-leaf _ _ _ _ _ (c .before .production-in .ensures .0) (search needs)
 
 pub step-spec : {M : Type 1} → statement M
 step-spec =

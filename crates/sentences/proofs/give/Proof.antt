@@ -1,6 +1,5 @@
 use Rattle.sentences.specs.Leaves.{Giving, giving-none, gave-full, gave-all}
 use Rattle.sentences.specs.Behind.{Fronted, fronted-none, behind-inner, behind-leaf}
-use Rattle.trees.specs.Area.{maxSlots}
 use Rattle.trees.specs.Coded.{nodeSize}
 use Rattle.plain.specs.Tokens.{tokenSize}
 use Prim.Native.Nat.{_+_, _-_, _*_, _≤_}
@@ -11,19 +10,19 @@ use Rattle.sentences.proofs.give.Statement.{statement}
 use Rattle.sentences.proofs.give.Tie as tie
 
 abbrev Inv-loop : tie.InvT-loop
-Inv-loop work₀ n from text at end i₀ j₀ work i j = (n ≤ maxSlots) × (i ≤ n) × (j ≤ end) × (nodeSize * n ≤ text) × (text + tokenSize * end ≤ length work₀) × (length work ≡ length work₀) × Giving work₀ n from (drop text work₀) at i j (drop text work) × Fronted text work₀ work
+Inv-loop work₀ n from text at end i₀ j₀ work i j = (i ≤ n) × (j ≤ end) × (nodeSize * n ≤ text) × (text + tokenSize * end ≤ length work₀) × (length work ≡ length work₀) × Giving work₀ n from (drop text work₀) at i j (drop text work) × Fronted text work₀ work
 
 abbrev μ-loop : tie.MeasureT-loop
 μ-loop work₀ n from text at end i₀ j₀ work i j = n - i
 
 loop-holds : tie.Need-loop-holds Inv-loop μ-loop
-loop-holds c = (search needs, search needs, search needs, search needs, search needs, search needs, giving-none _ _ _ _ _, fronted-none _ _)
+loop-holds c = (search needs, search needs, search needs, search needs, search needs, giving-none _ _ _ _ _, fronted-none _ _)
 
 same-length : tie.Need-same-length Inv-loop μ-loop
 same-length c = search needs
 
 returns : tie.Need-returns Inv-loop μ-loop
-returns c = (gave-full _ _ _ _ _ _ _ _ (c .before .before .loop .inv .6) _ (search needs), c .before .before .loop .inv .7, search needs, search needs)
+returns c = (gave-full _ _ _ _ _ _ _ _ (c .before .before .loop .inv .5) _ (search needs), c .before .before .loop .inv .6, search needs, search needs)
 
 production-of-requires : tie.Need-production-of-requires Inv-loop μ-loop
 production-of-requires c κs = search needs
@@ -35,7 +34,7 @@ loop-less : tie.Need-loop-less Inv-loop μ-loop
 loop-less c = search needs
 
 loop-again : tie.Need-loop-again Inv-loop μ-loop
-loop-again c = (search needs, search needs, search needs, search needs, search needs, search needs, behind-inner (c .before .before .before .before .before .loop .inv .6) (c .before .before .before .before .before .loop .inv .7) (search needs) _ (search needs) (c .before .production-of .ensures .0) (search needs), c .before .before .before .before .before .loop .inv .7)
+loop-again c = (search needs, search needs, search needs, search needs, search needs, behind-inner (c .before .before .before .before .before .loop .inv .5) (c .before .before .before .before .before .loop .inv .6) (search needs) _ (search needs) (c .before .production-of .ensures .0) (search needs), c .before .before .before .before .before .loop .inv .6)
 
 symbol-of-requires : tie.Need-symbol-of-requires Inv-loop μ-loop
 symbol-of-requires c κs = search needs
@@ -59,13 +58,13 @@ loop-less-2 : tie.Need-loop-less-2 Inv-loop μ-loop
 loop-less-2 c = search needs
 
 loop-again-2 : tie.Need-loop-again-2 Inv-loop μ-loop
-loop-again-2 c = let z = behind-leaf (c .before .before .before .before .before .before .before .before .before .before .before .before .before .loop .inv .6) (c .before .before .before .before .before .before .before .before .before .before .before .before .before .loop .inv .7) (search needs) _ _ _ _ (search needs) (c .before .before .before .before .before .before .before .before .before .production-of .ensures .0) (search needs) (c .before .before .before .before .before .before .symbol-of .ensures .0) (c .before .before .before .before .tag-of .ensures .0) (search needs) (c .before .before .put-token .ensures) in (search needs, search needs, search needs, search needs, search needs, search needs, z .0, z .1)
+loop-again-2 c = let z = behind-leaf (c .before .before .before .before .before .before .before .before .before .before .before .before .before .loop .inv .5) (c .before .before .before .before .before .before .before .before .before .before .before .before .before .loop .inv .6) (search needs) _ _ _ _ (search needs) (c .before .before .before .before .before .before .before .before .before .production-of .ensures .0) (search needs) (c .before .before .before .before .before .before .symbol-of .ensures .0) (c .before .before .before .before .tag-of .ensures .0) (search needs) (c .before .before .put-token .ensures) in (search needs, search needs, search needs, search needs, search needs, z .0, z .1)
 
 same-length-2 : tie.Need-same-length-2 Inv-loop μ-loop
 same-length-2 c = search needs
 
 returns-2 : tie.Need-returns-2 Inv-loop μ-loop
-returns-2 c = (gave-all _ _ _ _ _ _ _ _ (c .before .loop .inv .6) _ (search needs) (search needs), c .before .loop .inv .7, search needs, search needs)
+returns-2 c = (gave-all _ _ _ _ _ _ _ _ (c .before .loop .inv .5) _ (search needs) (search needs), c .before .loop .inv .6, search needs, search needs)
 
 pub give-spec : {M : Type 1} → statement M
 give-spec =

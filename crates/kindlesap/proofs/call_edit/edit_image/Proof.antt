@@ -1,7 +1,7 @@
 use borrow.Author.Needs.{needs}
 use Rattle.kindlesap.proofs.call_edit.edit_image.Statement.{statement}
 use Rattle.kindlesap.proofs.call_edit.edit_image.Tie as tie
-use Rattle.kindlesap.specs.Judging.{got-formed, got-few, opened-good, opened-bad}
+use Rattle.kindlesap.specs.Judging.{got-formed, opened-good, opened-bad}
 
 read-grammar-requires : tie.Need-read-grammar-requires
 read-grammar-requires c κs = search needs
@@ -10,7 +10,7 @@ enum-known-head : tie.Need-enum-known-head
 enum-known-head c = search needs
 
 edit-read-requires : tie.Need-edit-read-requires
-edit-read-requires c κs = (search (got-formed, needs), search (got-few, needs))
+edit-read-requires c κs = search (got-formed, needs)
 
 enum-known-offset : tie.Need-enum-known-offset
 enum-known-offset c = search needs

@@ -13,7 +13,7 @@ slice-aggregate-judge-2 c = search needs
 
 judge-requires : tie.Need-judge-requires
 unfolding zeros
-judge-requires c κs = (c .before .before .before .before .before .before .before .pre .0, c .before .before .before .before .before .before .before .pre .1, search needs, search needs, refl)
+judge-requires c κs = (c .before .before .before .before .before .before .before .pre, search needs, refl)
 
 enum-known-symbol : tie.Need-enum-known-symbol
 enum-known-symbol c = search needs

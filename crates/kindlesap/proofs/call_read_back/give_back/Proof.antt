@@ -17,7 +17,7 @@ mul-give-out : tie.Need-mul-give-out
 mul-give-out c = search needs
 
 give-out-requires : tie.Need-give-out-requires
-give-out-requires c κs = let f = treed-fits _ _ _ _ _ _ _ _ _ (c .before .before .before .before .before .before .before .before .pre .0) in let g = treed-few _ _ _ _ _ _ _ _ _ (c .before .before .before .before .before .before .before .before .pre .0) in let h = tokens-fit _ _ _ _ _ _ _ _ _ (c .before .before .before .before .before .before .before .before .pre .0) _ (c .before .before .before .get16 .ensures .0) in search needs
+give-out-requires c κs = let f = treed-fits _ _ _ _ _ _ _ _ _ (c .before .before .before .before .before .before .before .before .pre .0) in let h = tokens-fit _ _ _ _ _ _ _ _ _ (c .before .before .before .before .before .before .before .before .pre .0) _ (c .before .before .before .get16 .ensures .0) in search needs
 
 cast-t22 : tie.Need-cast-t22
 cast-t22 c = let f = treed-few _ _ _ _ _ _ _ _ _ (c .before .before .before .before .before .before .before .before .before .before .before .before .before .pre .0) in search needs

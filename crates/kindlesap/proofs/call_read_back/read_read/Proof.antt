@@ -14,7 +14,7 @@ slice-aggregate-judge-2 c = search needs
 
 judge-requires : tie.Need-judge-requires
 unfolding zeros
-judge-requires c κs = (c .before .before .before .before .before .pre .0, c .before .before .before .before .before .pre .1, search needs, search needs, refl)
+judge-requires c κs = (c .before .before .before .before .before .pre, search needs, refl)
 
 enum-known-symbol : tie.Need-enum-known-symbol
 enum-known-symbol c = search needs
@@ -26,7 +26,7 @@ enum-told : tie.Need-enum-told
 enum-told c = search needs
 
 read-fit-requires : tie.Need-read-fit-requires
-read-fit-requires c κs = start-small _ _ _ _ _ (c .before .before .before .before .before .before .before .before .before .before .before .before .pre .0)
+read-fit-requires c κs = start-small _ _ _ _ _ (c .before .before .before .before .before .before .before .before .before .before .before .before .pre)
 
 returns : tie.Need-returns
 returns c = judged-useless _ _ _ (c .before .before .before .before .before .judge .ensures) (search needs)

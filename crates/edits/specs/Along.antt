@@ -1,4 +1,4 @@
--- What matching asks of two trees: a node before the place keeps the slot of that number, and a kept node that the edit doesn't touch carries its subtree along.
+-- A new node that starts before the place keeps the slot of that number, and a kept node that the edit doesn't touch carries its subtree along.
 use Prim.Native.Nat.{ℕ, zero, suc, _+_, _≤_, _<_}
 use mathlib.Core.Path.{_≡_, refl, sym, ap, _∙_, subst}
 use mathlib.Core.Logic.{_⊎_, inl, inr}
@@ -9,13 +9,12 @@ use native.Mathlib.Omega.{arith}
 use Rattle.grammar.specs.Grammar.{Grammar}
 use Rattle.grammar.specs.Forest.{Token, Forest, size, yield}
 use Rattle.plain.specs.Alike.{same-size}
 use Rattle.edits.specs.Keeping.{Edit, Kept, edited, own, below, Node, Keeps}
 use Rattle.edits.specs.Places.{tokens, treeSize, at-number, at-token, at-below, Numbered, at-node}
-use Rattle.edits.specs.One.{Back, keeps-back, keeps-old, keeps-one}
+use Rattle.edits.specs.One.{Back, keeps-back, keeps-old, keeps-node, void-below, keeps-one}
 use Rattle.edits.specs.Edited.{Trees, same-after}
 use Rattle.edits.specs.Before.{before-keeps}
 use Rattle.edits.specs.After.{below-tokens, first, tree-size, Carried, keeps-start, void-carries, after-carries}
-use Rattle.matching.specs.Matching.{Apart, Fronts, Carries, keeps-node, void-below}
 
 -- a forest's first tree alone
 first-size : (f : Forest) → size (first f) ≡ treeSize f
@@ -69,13 +68,14 @@ module _ {G : Grammar} {e : Edit} {old new : Forest} (h : Trees G e old new) whe
       yields =
           rw (before, behind, ← drop-drop (e .removed) (e .place) (yield old), take-append-drop (e .removed) (drop (e .place) (yield old)), take-append-drop (e .place) (yield old))
 
-  pub fronts : Fronts e old new
-  fronts a q m t f d l = keeps-back back (before-keeps undo-trees d l)
+  -- a new node that starts before the place
+  pub keeps-front : {a q m t : ℕ} {f : Forest} → Node new a q m t f → t < e .place → Keeps e old new a a
+  keeps-front d l = keeps-back back (before-keeps undo-trees d l)
     where
       back : Back undo e
       back = record { place = refl; removed = sym undo-long; inserted = refl }
 
-  -- node c of a subtree by its node, where that is kept
+  -- node c of a subtree by its node, where that is carried along
   along : (c : ℕ) {a' a : ℕ} {f' f : Forest} → Carried e old new a' f' a f → c < treeSize f' → Keeps e old new (a' + c) (a + c)
   along c {f' = f'} {f = f} s l = s .each c (omega (arith, same-size (s .same), first-size f, first-size f'))
 
@@ -83,19 +83,27 @@ module _ {G : Grammar} {e : Edit} {old new : Forest} (h : Trees G e old new) whe
   behind-run (Kept.before x y) l = absurd (omega arith)
   behind-run (Kept.after d x y) l = omega arith
 
-  pub carries : Carries e old new
-  carries a' a q m t f k d (Apart.void l) c o = let u = void-below d l k in along c (void-carries h k d (u .node) l (u .none)) o
-  carries a' a q m t f k d (Apart.after l) c o = go (keeps-start k d (u .node))
-    where
-      u : Numbered 1 0 0 0 old a
-      u = keeps-node k (keeps-old k (at-number d .0))
+  module _ {a' a q m t : ℕ} {f : Forest} (k : Keeps e old new a' a) (d : Node new a' q m t f) (c : ℕ) (o : c < treeSize f) where
+    -- a kept new node without tokens
+    pub void-along : own f ≡ 0 → Keeps e old new (a' + c) (a + c)
+    void-along l = let u = void-below d l k in along c (void-carries h k d (u .node) l (u .none)) o
 
-      go : Kept e t (u .token) ⊎ ((own f ≡ 0) × (own (u .forest) ≡ 0)) → Keeps e old new (a' + c) (a + c)
-      go (inl x) = along c (after-carries h k d (u .node) (behind-run x l)) o
-      go (inr x) = along c (void-carries h k d (u .node) (x .0) (x .1)) o
-  carries a' a q m t f k d (Apart.before l) c o =
-      let n = subtree-token d c o (a' + c) refl in
-      let x : Keeps e old new (a' + c) (a' + c) = fronts (a' + c) (n .0 .parent) (n .0 .child) (n .0 .token) (n .0 .forest) (n .0 .node) (omega (arith, n .1)) in
-      let z : a' ≡ a = keeps-one (h .prepared) (h .first) (fronts a' q m t f d (omega arith)) k in
-      let v : a' + c ≡ a + c = omega arith in
-      subst (λ (u : ℕ). Keeps e old new (a' + c) u) v x
+    -- one that starts behind the inserted tokens
+    pub after-along : e .place + length (e .inserted) ≤ t → Keeps e old new (a' + c) (a + c)
+    after-along l = go (keeps-start k d (u .node))
+      where
+        u : Numbered 1 0 0 0 old a
+        u = keeps-node k (keeps-old k (at-number d .0))
+
+        go : Kept e t (u .token) ⊎ ((own f ≡ 0) × (own (u .forest) ≡ 0)) → Keeps e old new (a' + c) (a + c)
+        go (inl x) = along c (after-carries h k d (u .node) (behind-run x l)) o
+        go (inr x) = void-along (x .0)
+
+    -- one before the place, as is the token behind it
+    pub before-along : t + own f < e .place → Keeps e old new (a' + c) (a + c)
+    before-along l =
+        let n = subtree-token d c o (a' + c) refl in
+        let x : Keeps e old new (a' + c) (a' + c) = keeps-front (n .0 .node) (omega (arith, n .1)) in
+        let z : a' ≡ a = keeps-one (h .prepared) (h .first) (keeps-front d (omega arith)) k in
+        let v : a' + c ≡ a + c = omega arith in
+        subst (λ (u : ℕ). Keeps e old new (a' + c) u) v x
