@@ -1,5 +1,5 @@
 -- The starred examples of document 01: one table, proved by one statement about the definitions.
-use Prim.Native.Nat.{ℕ, zero, suc, _+_, _<_}
+use Prim.Native.Nat.{ℕ, zero, suc, _+_, _≤_, _<_}
 use mathlib.Core.Path.{_≡_, refl}
 use mathlib.Core.Option.{some}
 use mathlib.Core.List.{List, [], _∷_}
@@ -9,6 +9,7 @@ use Rattle.base.specs.Choose.{choose}
 use Rattle.base.specs.Blocks.{zeros}
 use Rattle.grammar.specs.Limits.{columns}
 use Rattle.grammar.specs.Each.{Each}
+use Rattle.grammar.specs.Grammar.{TerminalOf}
 use Rattle.grammar.specs.Prediction.{Break}
 use Rattle.grammar.specs.Forest.{Token, kinds, Forest, Derives}
 use Rattle.grammar.specs.Rows.{symbolSpace}
@@ -17,6 +18,7 @@ use Rattle.predictions.specs.Hits.{hasb}
 use Rattle.tables.specs.Tables.{rowSymbol, Prediction}
 use Rattle.tables.specs.Cells.{next, stemBits, sharedFrom, behindOf, pointOf}
 use Rattle.tables.specs.Points.{point}
+use Rattle.trees.specs.Area.{maxSlots}
 use Rattle.plain.specs.Plain.{Verdict, accepted, syntax, noRoom, Parses}
 use Rattle.plain.specs.Machine.{marked}
 use Rattle.replies.specs.declared.Reason.{Reason}
@@ -29,7 +31,7 @@ use Rattle.worked.specs.Entries.{cell, cell-is, entry, entry-is}
 use Rattle.worked.specs.Run.{body, lit, leaf, grown, inner, turn, run, run-right}
 use Rattle.worked.specs.Match.{orElse, seek, starts, stands, was, full, void, source, matches, slotOf, slotsOf, held}
 use Rattle.worked.specs.Alter.{grows, among, filled, gives, givenUp}
-use Rattle.worked.specs.Edits.{Cell, kept, made, Row, Setting, Replies, Remade, spelled, noded, planted, facts, edit-says, syntax-says, beyond-says}
+use Rattle.worked.specs.Edits.{Cell, kept, made, Row, Setting, Replies, Remade, spelled, noded, planted, facts, Found, found-setting, edit-says, syntax-says, beyond-says}
 
 -- ---- what an example says
 
@@ -64,7 +66,7 @@ pub data Example : Type 0 where
   tree : (S : ℕ) (w : List Token) (f : Forest) → Example
   -- C to F. how a sentence of these kinds, whatever its tags, ends in S slots
   parse : (S : ℕ) (ks : List ℕ) (v : Verdict) → Example
-  -- G to K. an edit of the tree that parse leaves of a sentence, whatever the tags of the sentence and of the new tokens, is accepted
+  -- G to K. there is a tree that parse leaves of the sentence, and there are such new tokens; and whatever the tags of both, the edit of that tree is accepted
   edit : (r : Row) → Example
   -- or it is refused, and the tree untouched; there are S slots, ks the kinds of the sentence, and `new` those of the new tokens
   refusal : (S : ℕ) (ks : List ℕ) (place removed : ℕ) (new : List ℕ) (reason : Reason) → Example
@@ -74,8 +76,8 @@ Says (counts p b e) = Counted p b e
 Says (breakPoint M N a v) = Break reference M N a v
 Says (tree S w f) = Stored reference S w f
 Says (parse S ks v) = (w : List Token) → kinds w ≡ ks → Parses reference S w v
-Says (edit r) = (x : Setting (r .S) (r .sentence) (r .inserted)) → Remade r x
-Says (refusal S ks place removed new reason) = (x : Setting S ks new) → Replies x place removed (Refused reason) (x .tree)
+Says (edit r) = Setting (r .S) (r .sentence) (r .inserted) × ((x : Setting (r .S) (r .sentence) (r .inserted)) → Remade r x)
+Says (refusal S ks place removed new reason) = Setting S ks new × ((x : Setting S ks new) → Replies x place removed (Refused reason) (x .tree))
 
 -- ---- the table
 
@@ -234,9 +236,36 @@ treeV =
     made 1 6 1 ∷ made 2 7 3 ∷ made 3 1 0 ∷ made 4 8 4 ∷ made 5 2 0 ∷ made 6 9 6 ∷ made 7 10 8 ∷ made 8 5 0 ∷ made 9 6 1 ∷ made 10 7 3 ∷ made 11 1 0 ∷ made 12 8 4 ∷ made 13 2 0 ∷ made 14 9 6 ∷
     made 15 10 8 ∷ made 16 5 0 ∷ made 17 6 2 ∷ []
 
+pub row-says : (r : Row) (olds : List Cell) → Found r olds → 1 ≤ r .S → r .S ≤ maxSlots → Each (TerminalOf (reference .t)) (r .inserted) → Says (edit r)
+row-says r olds found l m i = (found-setting r olds found l m i, edit-says r olds found)
+
+-- `4 2`, `3` and `2`
+new-4-2 : Each (TerminalOf (reference .t)) (4 ∷ 2 ∷ [])
+unfolding reference
+new-4-2 = Each.cons {x = 4} (omega arith, omega arith) (Each.cons {x = 2} (omega arith, omega arith) Each.nil)
+
+new-3 : Each (TerminalOf (reference .t)) (3 ∷ [])
+unfolding reference
+new-3 = Each.cons {x = 3} (omega arith, omega arith) Each.nil
+
+pub new-2 : Each (TerminalOf (reference .t)) (2 ∷ [])
+unfolding reference
+new-2 = Each.cons {x = 2} (omega arith, omega arith) Each.nil
+
 pub exampleH-holds : Says (edit exampleH)
 unfolding body choose reference spelled noded planted facts held matches source full void was seek orElse starts stands slotOf slotsOf grows among filled gives givenUp below
-exampleH-holds = edit-says exampleH treeV (λ w u. refl)
+exampleH-holds = row-says exampleH treeV (λ w u. refl) (omega arith) (omega arith) Each.nil
+
+exampleK-holds : Says (edit exampleK)
+unfolding body choose reference spelled noded planted facts held matches source full void was seek orElse starts stands slotOf slotsOf grows among filled gives givenUp below
+exampleK-holds = row-says exampleK treeU (λ w u. refl) (omega arith) (omega arith) Each.nil
+
+pub exampleJ-holds : Says (refusal 1000 kindsV 2 2 [] (Syntax 2 56))
+unfolding run turn leaf inner grown body lit marked cell cells zeros choose reference
+exampleJ-holds = (exampleH-holds .0, syntax-says 20 1000 2 2 2 56 kindsV [] (omega arith) refl)
+
+beyond-holds : Says (refusal 1000 kindsU 3 1 [] (BeyondTokens 3))
+beyond-holds = (exampleK-holds .0, beyond-says 1000 3 1 kindsU [] (omega arith))
 
 -- every example holds
 pub examples-hold : Each Says examples
@@ -255,9 +284,9 @@ examples-hold =
     (Each.cons (parse-says 20 _ _ _ refl)
     (Each.cons (parse-says 20 _ _ _ refl)
     (Each.cons (parse-says 40 _ _ _ refl)
-    (Each.cons (edit-says exampleG treeU (λ w u. refl))
+    (Each.cons (row-says exampleG treeU (λ w u. refl) (omega arith) (omega arith) new-4-2)
     (Each.cons exampleH-holds
-    (Each.cons (edit-says exampleI treeV (λ w u. refl))
-    (Each.cons (syntax-says 20 1000 2 2 _ _ kindsV [] (omega arith) refl)
-    (Each.cons (edit-says exampleK treeU (λ w u. refl))
-    (Each.cons (beyond-says 1000 3 1 kindsU [] (omega arith)) Each.nil))))))))))))))))))
+    (Each.cons (row-says exampleI treeV (λ w u. refl) (omega arith) (omega arith) new-3)
+    (Each.cons exampleJ-holds
+    (Each.cons exampleK-holds
+    (Each.cons beyond-holds Each.nil))))))))))))))))))
