@@ -111,7 +111,7 @@ up-distinct s (suc n) = Distinct.cons new (up-distinct (s + 1) n)
     new : List·Memᴰ s (upFrom (s + 1) n) → ⊥
     new m = let h = each-mem (upFrom (s + 1) n) (up-within (s + 1) n) m in omega arith
 
-pub setting : {S : ℕ} {w : List Token} {f : Forest} (u : List Token) → 1 ≤ S → S ≤ maxSlots → Stored reference S w f → Each Tagged w → Each (TerminalOf (reference .t)) (kinds u) → Each Tagged u
+setting : {S : ℕ} {w : List Token} {f : Forest} (u : List Token) → 1 ≤ S → S ≤ maxSlots → Stored reference S w f → Each Tagged w → Each (TerminalOf (reference .t)) (kinds u) → Each Tagged u
     → Setting S (kinds w) (kinds u)
 setting {S} {w} {f} u l m h t i j =
     let d : Distinct (slots f) = rw (h .order) (up-distinct 1 (size f)) in
@@ -160,8 +160,13 @@ spelled-is (a ∷ ks) (k ∷ w) e =
     let z : k .kind ≡ a = cc in
     rw (spelled-is ks w q, ← z)
 
+kinds-spelled : (ks : List ℕ) (w : List Token) → kinds (spelled ks w) ≡ ks
+unfolding spelled
+kinds-spelled [] w = refl
+kinds-spelled (k ∷ ks) w = ap (λ (ls : List ℕ). k ∷ ls) (kinds-spelled ks (tailOf w))
+
 -- tags that are not given are 0
-pub spelled-tags : (ks : List ℕ) → Each Tagged (spelled ks [])
+spelled-tags : (ks : List ℕ) → Each Tagged (spelled ks [])
 unfolding spelled
 spelled-tags [] = Each.nil
 spelled-tags (k ∷ ks) = let l : 0 < tagSpace = omega arith in Each.cons l (spelled-tags ks)
@@ -244,7 +249,7 @@ Found r olds = (w u : List Token) → go (spelled (r .sentence) w) (editOf (r .p
 
 -- ---- it is right
 
-abbrev valid : {S : ℕ} {ks new : List ℕ} (x : Setting S ks new) → Valid reference S (x .tree)
+abbrev pub valid : {S : ℕ} {ks new : List ℕ} (x : Setting S ks new) → Valid reference S (x .tree)
 valid x = record { some = x .some; few = x .few; tree = x .old; derives = x .stored .derives; area = x .area }
 
 replied : {S : ℕ} {ks new : List ℕ} (x : Setting S ks new) {place removed : ℕ} {r : Reply} {tree' : List ℕ}
@@ -252,7 +257,7 @@ replied : {S : ℕ} {ks new : List ℕ} (x : Setting S ks new) {place removed : 
 replied x h = record { opened = good-image reference-image (fit reference-prepared h); cleared = refl }
 
 -- the old tree is one that parse leaves
-pub stored-found : (r : Row) (olds : List Cell) → Found r olds → (w u : List Token) → Stored reference (r .S) (spelled (r .sentence) w) (planted (spelled (r .sentence) w) olds)
+stored-found : (r : Row) (olds : List Cell) → Found r olds → (w u : List Token) → Stored reference (r .S) (spelled (r .sentence) w) (planted (spelled (r .sentence) w) olds)
 unfolding facts
 stored-found r olds found w u =
     let O : Forest = planted (spelled (r .sentence) w) olds in
@@ -263,6 +268,15 @@ stored-found r olds found w u =
       fits = leb-true (size O) (r .S) (ap (λ (f : Facts). f .old-fits) h);
       order = ap (λ (f : Facts). f .old-slots) h;
     }
+
+-- and with tags 0 it gives a setting
+pub found-setting : (r : Row) (olds : List Cell) → Found r olds → 1 ≤ r .S → r .S ≤ maxSlots → Each (TerminalOf (reference .t)) (r .inserted) → Setting (r .S) (r .sentence) (r .inserted)
+found-setting r olds found l m i =
+    let u : List Token = spelled (r .inserted) [] in
+    let q : kinds u ≡ r .inserted = kinds-spelled (r .inserted) [] in
+    let x : Setting (r .S) (kinds (spelled (r .sentence) [])) (kinds u) =
+    setting u l m (stored-found r olds found [] []) (spelled-tags (r .sentence)) (subst (Each (TerminalOf (reference .t))) (sym q) i) (spelled-tags (r .inserted)) in
+    rw (kinds-spelled (r .sentence) [], q) at x
 
 -- the new tree has an area
 altered-laid : {S place removed k m u : ℕ} {ks new : List ℕ} (x : Setting S ks new) {N : Forest} → Altered reference S (editOf place removed (x .inserted)) (x .old) N k m u → (b : List ℕ) × Area S N b
@@ -345,7 +359,7 @@ module _ {S : ℕ} {ks new : List ℕ} (x : Setting S ks new) where
   old-kinds : kinds (yield (x .old)) ≡ ks
   old-kinds = ap kinds (x .stored .yields) ∙ x .sentence-kinds
 
-  old-length : length (yield (x .old)) ≡ length ks
+  pub old-length : length (yield (x .old)) ≡ length ks
   old-length = sym (length-kinds (yield (x .old))) ∙ ap length old-kinds
 
   edited-kinds : (place removed : ℕ) → kinds (edited (editOf place removed (x .inserted)) (yield (x .old))) ≡ newKinds place removed ks new

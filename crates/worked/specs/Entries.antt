@@ -13,12 +13,13 @@ use Rattle.grammar.specs.Grammar.{Grammar}
 use Rattle.grammar.specs.Prediction.{Break}
 use Rattle.grammar.specs.Rows.{symbolSpace, grammarIn}
 use Rattle.grammar.specs.Reference.{reference}
-use Rattle.tables.specs.Tables.{tableRows, rowSize, predictionsSize, breaksSize, rowSymbol, breakPlace, Prediction, Tables}
+use Rattle.tables.specs.Tables.{tableRows, rowSize, predictionsSize, breaksSize, rowSymbol, predictionPlace, breakPlace, Prediction, Tables}
+use Rattle.tables.specs.One.{prediction-one, break-one}
 use Rattle.tables.specs.Cells.{stemBits, pointOf}
 use Rattle.tables.specs.Points.{point}
 use Rattle.tables.specs.Outcome.{cell-prediction}
 use Rattle.worked.specs.Words.{rows, words, is-reference, known}
-use Rattle.worked.specs.Ready.{prepared, cells, listed, steps, step-is}
+use Rattle.worked.specs.Ready.{prepared, reference-prepared, cells, listed, steps, step-is}
 
 -- the prediction of row R at lookahead a
 unfoldable pub cell : ℕ → ℕ → ℕ
@@ -105,3 +106,32 @@ reference-tables =
           (entry-is (rowSymbol reference R) (rowSymbol reference Q) a (omega arith) (omega arith) k);
       other = λ R Q a l m k n. broken-at R Q a l m k ∙ broken-out R Q a n;
     }
+
+-- ---- the bytes of its tables, at the places that document 01 names
+
+-- "row M (nonterminals counted from 0), 32 columns of lookahead 0..31"
+abbrev pub predictionByte : (R a : ℕ) → ℕ
+predictionByte R a = R * 32 + a
+
+-- "The break points start at byte 1,024: entry (M×32+N)×32+a"
+abbrev pub breakByte : (R Q a : ℕ) → ℕ
+breakByte R Q a = 1024 + ((R * 32 + Q) * 32 + a)
+
+module _ {w : List ℕ} (t : Tables reference w) where
+  pub prediction-byte : (R a : ℕ) → R < 32 → a < 32 → getD w (predictionByte R a) 0 ≡ cell R a
+  prediction-byte R a l k =
+      let q : predictionPlace R a ≡ predictionByte R a = omega arith in
+      rw q at (prediction-one reference-prepared (t .prediction R a l k) (cell-is R a l k))
+
+  pub break-byte : (R Q a : ℕ) → R < 5 → Q < 5 → a < 32 → getD w (breakByte R Q a) 0 ≡ entry (6 + R) (6 + Q) a
+  unfolding reference
+  break-byte R Q a l m k =
+      let q : predictionsSize + breakPlace R Q a ≡ breakByte R Q a = omega arith in
+      rw q at (break-one reference-prepared (t .break R Q a l m k) (entry-is (6 + R) (6 + Q) a (omega arith) (omega arith) k))
+
+  -- beyond the five nonterminals
+  pub other-byte : (R Q a : ℕ) → R < 32 → Q < 32 → a < 32 → (R < 5 → Q < 5 → ⊥) → getD w (breakByte R Q a) 0 ≡ 0
+  unfolding reference
+  other-byte R Q a l m k n =
+      let q : predictionsSize + breakPlace R Q a ≡ breakByte R Q a = omega arith in
+      rw q at (t .other R Q a l m k n)

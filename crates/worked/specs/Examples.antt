@@ -1,22 +1,26 @@
 -- The starred examples of document 01: one table, proved by one statement about the definitions.
-use Prim.Native.Nat.{ℕ, zero, suc, _+_, _<_}
-use mathlib.Core.Path.{_≡_, refl}
+use Prim.Native.Nat.{ℕ, _+_, _-_, _*_, _≤_, _<_}
+use mathlib.Core.Path.{_≡_, refl, ap, _∙_}
 use mathlib.Core.Option.{some}
 use mathlib.Core.List.{List, [], _∷_}
+use lib.ListN.{getD}
 use lib.Dec.{eqb}
 use native.Mathlib.Omega.{arith}
 use Rattle.base.specs.Choose.{choose}
 use Rattle.base.specs.Blocks.{zeros}
 use Rattle.grammar.specs.Limits.{columns}
 use Rattle.grammar.specs.Each.{Each}
+use Rattle.grammar.specs.Grammar.{TerminalOf}
 use Rattle.grammar.specs.Prediction.{Break}
 use Rattle.grammar.specs.Forest.{Token, kinds, Forest, Derives}
 use Rattle.grammar.specs.Rows.{symbolSpace}
 use Rattle.grammar.specs.Reference.{reference}
 use Rattle.predictions.specs.Hits.{hasb}
-use Rattle.tables.specs.Tables.{rowSymbol, Prediction}
+use Rattle.tables.specs.Tables.{rowSymbol, Prediction, Tables}
+use Rattle.tables.specs.One.{tables-one}
 use Rattle.tables.specs.Cells.{next, stemBits, sharedFrom, behindOf, pointOf}
 use Rattle.tables.specs.Points.{point}
+use Rattle.trees.specs.Area.{maxSlots}
 use Rattle.plain.specs.Plain.{Verdict, accepted, syntax, noRoom, Parses}
 use Rattle.plain.specs.Machine.{marked}
 use Rattle.replies.specs.declared.Reason.{Reason}
@@ -24,18 +28,15 @@ use Rattle.replies.specs.declared.Reason.the-variants.{BeyondTokens, Syntax}
 use Rattle.replies.specs.declared.Reply.the-variants.{Refused}
 use Rattle.kindlesap.specs.Parse.{Stored}
 use Rattle.worked.specs.Words.{words}
-use Rattle.worked.specs.Ready.{below, cells, steps}
-use Rattle.worked.specs.Entries.{cell, cell-is, entry, entry-is}
+use Rattle.worked.specs.Ready.{below, reference-prepared, cells, steps}
+use Rattle.worked.specs.Entries.{cell, cell-is, entry, entry-is, referenceTables, reference-tables, predictionByte, breakByte, prediction-byte, break-byte, other-byte}
+use Rattle.worked.specs.Sums.{sum, sum-same, sum-none, sum-first, sum-rows}
 use Rattle.worked.specs.Run.{body, lit, leaf, grown, inner, turn, run, run-right}
 use Rattle.worked.specs.Match.{orElse, seek, starts, stands, was, full, void, source, matches, slotOf, slotsOf, held}
 use Rattle.worked.specs.Alter.{grows, among, filled, gives, givenUp}
-use Rattle.worked.specs.Edits.{Cell, kept, made, Row, Setting, Replies, Remade, spelled, noded, planted, facts, edit-says, syntax-says, beyond-says}
+use Rattle.worked.specs.Edits.{Cell, kept, made, Row, Setting, Replies, Remade, spelled, noded, planted, facts, Found, found-setting, edit-says, syntax-says, beyond-says}
 
 -- ---- what an example says
-
-unfoldable pub sum : ℕ → (ℕ → ℕ) → ℕ
-sum zero f = 0
-sum (suc n) f = f n + sum n f
 
 -- 1 for a value that is not 0, and for one that is 255
 unfoldable pub used : ℕ → ℕ
@@ -54,28 +55,38 @@ pub record Counted (predictions breaks errors : ℕ) : Type 0 where
   pub predicted : sum (reference .n) (λ R. sum columns (λ a. used (prediction R a))) ≡ predictions
   pub broken : sum (reference .n) (λ R. sum (reference .n) (λ Q. sum columns (λ a. used (point R Q a)))) ≡ breaks
   pub wrong : sum (reference .n) (λ R. sum (reference .n) (λ Q. sum columns (λ a. error (point R Q a)))) ≡ errors
+  -- its tables are these bytes and no others; they hold the values at document 01's places
+  pub bytes : List ℕ
+  pub tables : Tables reference bytes
+  pub no-others : (w : List ℕ) → Tables reference w → w ≡ bytes
+  pub prediction-at : (R a : ℕ) → R < reference .n → a < columns → getD bytes (predictionByte R a) 0 ≡ prediction R a
+  pub point-at : (R Q a : ℕ) → R < reference .n → Q < reference .n → a < columns → getD bytes (breakByte R Q a) 0 ≡ point R Q a
+  -- and so many in all: "The first 1,024 are predictions", and 32,768 more make 33,792
+  pub predicted-bytes : sum 1024 (λ i. used (getD bytes i 0)) ≡ predictions
+  pub broken-bytes : sum 32768 (λ i. used (getD bytes (1024 + i) 0)) ≡ breaks
+  pub wrong-bytes : sum 32768 (λ i. error (getD bytes (1024 + i) 0)) ≡ errors
 
 pub data Example : Type 0 where
   -- A. so many predictions; so many break points are not 0, of which so many are 255
   counts : (predictions breaks errors : ℕ) → Example
-  -- B. [M, N, a] is v
+  -- B. [M, N, a] is v, and so is its byte in the tables, where the nonterminals are 6 and up
   breakPoint : (M N a v : ℕ) → Example
   -- C. the tree of a sentence, stored in S slots
   tree : (S : ℕ) (w : List Token) (f : Forest) → Example
   -- C to F. how a sentence of these kinds, whatever its tags, ends in S slots
   parse : (S : ℕ) (ks : List ℕ) (v : Verdict) → Example
-  -- G to K. an edit of the tree that parse leaves of a sentence, whatever the tags of the sentence and of the new tokens, is accepted
+  -- G to K. there is a tree that parse leaves of the sentence, and there are such new tokens; and whatever the tags of both, the edit of that tree is accepted
   edit : (r : Row) → Example
   -- or it is refused, and the tree untouched; there are S slots, ks the kinds of the sentence, and `new` those of the new tokens
   refusal : (S : ℕ) (ks : List ℕ) (place removed : ℕ) (new : List ℕ) (reason : Reason) → Example
 
 abbrev pub Says : Example → Type 0
 Says (counts p b e) = Counted p b e
-Says (breakPoint M N a v) = Break reference M N a v
+Says (breakPoint M N a v) = Break reference M N a v × ((w : List ℕ) → Tables reference w → getD w (breakByte (M - 6) (N - 6) a) 0 ≡ v)
 Says (tree S w f) = Stored reference S w f
 Says (parse S ks v) = (w : List Token) → kinds w ≡ ks → Parses reference S w v
-Says (edit r) = (x : Setting (r .S) (r .sentence) (r .inserted)) → Remade r x
-Says (refusal S ks place removed new reason) = (x : Setting S ks new) → Replies x place removed (Refused reason) (x .tree)
+Says (edit r) = Setting (r .S) (r .sentence) (r .inserted) × ((x : Setting (r .S) (r .sentence) (r .inserted)) → Remade r x)
+Says (refusal S ks place removed new reason) = Setting S ks new × ((x : Setting S ks new) → Replies x place removed (Refused reason) (x .tree))
 
 -- ---- the table
 
@@ -202,6 +213,36 @@ at-8-10-2 : entry 8 10 2 ≡ 0
 unfolding entry pointOf stemBits sharedFrom next hasb words steps zeros choose
 at-8-10-2 = refl
 
+-- ---- of the bytes
+
+-- the rows beyond the nonterminals hold no prediction
+nine-bytes : sum 32 (λ R. sum 32 (λ a. used (cell R a))) ≡ 9
+unfolding sum used cell cells zeros choose
+nine-bytes = refl
+
+prediction-sum : (v : ℕ → ℕ) → sum 1024 (λ i. v (getD referenceTables i 0)) ≡ sum 32 (λ R. sum 32 (λ a. v (cell R a)))
+prediction-sum v =
+    sum-rows 32 (λ i. v (getD referenceTables i 0)) ∙ sum-same 32 _ _ (λ R l. sum-same 32 _ _ (λ a k. ap v (prediction-byte reference-tables R a l k)))
+
+-- 32 rows of 32 by 32 break points, of which 5 rows of 5 have values
+break-sum : (v : ℕ → ℕ) → v 0 ≡ 0 → sum 32768 (λ i. v (getD referenceTables (1024 + i) 0)) ≡ sum 5 (λ R. sum 5 (λ Q. sum 32 (λ a. v (entry (6 + R) (6 + Q) a))))
+break-sum v z =
+    let f : ℕ → ℕ = λ i. v (getD referenceTables (1024 + i) 0) in
+    let beyond : (R Q a : ℕ) → R < 32 → Q < 32 → a < 32 → (R < 5 → Q < 5 → ⊥) → f ((R * 32 + Q) * 32 + a) ≡ 0 = λ R Q a l m k n. ap v (other-byte reference-tables R Q a l m k n) ∙ z in
+    sum-rows 1024 f
+    ∙ sum-rows 32 (λ j. sum 32 (λ a. f (j * 32 + a)))
+    ∙ sum-first 5 27 (λ R. sum 32 (λ Q. sum 32 (λ a. f ((R * 32 + Q) * 32 + a)))) (λ R l m. sum-none 32 _ (λ Q k. sum-none 32 _ (λ a i. beyond R Q a (omega arith) k i (λ x y. omega arith))))
+    ∙ sum-same 5 _ _ (λ R l. sum-first 5 27 (λ Q. sum 32 (λ a. f ((R * 32 + Q) * 32 + a))) (λ Q m k. sum-none 32 _ (λ a i. beyond R Q a (omega arith) (omega arith) i (λ x y. omega arith)))
+    ∙ sum-same 5 _ _ (λ Q m. sum-same 32 _ _ (λ a k. ap v (break-byte reference-tables R Q a l m k))))
+
+used-none : used 0 ≡ 0
+unfolding used choose
+used-none = refl
+
+error-none : error 0 ≡ 0
+unfolding error choose
+error-none = refl
+
 counted : Says (counts 9 25 17)
 unfolding reference
 counted = record {
@@ -212,10 +253,21 @@ counted = record {
   predicted = nine;
   broken = twentyfive;
   wrong = seventeen;
+  bytes = referenceTables;
+  tables = reference-tables;
+  no-others = λ w t. tables-one reference-prepared t reference-tables;
+  prediction-at = λ R a l k. prediction-byte reference-tables R a (omega arith) k;
+  point-at = λ R Q a l m k. break-byte reference-tables R Q a l m k;
+  predicted-bytes = prediction-sum used ∙ nine-bytes;
+  broken-bytes = break-sum used used-none ∙ twentyfive;
+  wrong-bytes = break-sum error error-none ∙ seventeen;
 }
 
-point-says : (M N a v : ℕ) → M < symbolSpace → N < symbolSpace → a < columns → entry M N a ≡ v → Says (breakPoint M N a v)
-point-says M N a v l m k e = rw e at (entry-is M N a l m k)
+point-says : (M N a v : ℕ) → 6 ≤ M → M ≤ 10 → 6 ≤ N → N ≤ 10 → a < columns → entry M N a ≡ v → Says (breakPoint M N a v)
+point-says M N a v l m i j k e =
+    let p : 6 + (M - 6) ≡ M = omega arith in
+    let q : 6 + (N - 6) ≡ N = omega arith in
+    (rw e at (entry-is M N a (omega arith) (omega arith) k), λ w t. break-byte t (M - 6) (N - 6) a (omega arith) (omega arith) k ∙ rw (p, q) e)
 
 empty-tree : Says (tree 1000 [] (Forest.node 1 6 2 Forest.nil Forest.nil))
 unfolding reference
@@ -234,19 +286,46 @@ treeV =
     made 1 6 1 ∷ made 2 7 3 ∷ made 3 1 0 ∷ made 4 8 4 ∷ made 5 2 0 ∷ made 6 9 6 ∷ made 7 10 8 ∷ made 8 5 0 ∷ made 9 6 1 ∷ made 10 7 3 ∷ made 11 1 0 ∷ made 12 8 4 ∷ made 13 2 0 ∷ made 14 9 6 ∷
     made 15 10 8 ∷ made 16 5 0 ∷ made 17 6 2 ∷ []
 
+pub row-says : (r : Row) (olds : List Cell) → Found r olds → 1 ≤ r .S → r .S ≤ maxSlots → Each (TerminalOf (reference .t)) (r .inserted) → Says (edit r)
+row-says r olds found l m i = (found-setting r olds found l m i, edit-says r olds found)
+
+-- `4 2`, `3` and `2`
+new-4-2 : Each (TerminalOf (reference .t)) (4 ∷ 2 ∷ [])
+unfolding reference
+new-4-2 = Each.cons {x = 4} (omega arith, omega arith) (Each.cons {x = 2} (omega arith, omega arith) Each.nil)
+
+new-3 : Each (TerminalOf (reference .t)) (3 ∷ [])
+unfolding reference
+new-3 = Each.cons {x = 3} (omega arith, omega arith) Each.nil
+
+pub new-2 : Each (TerminalOf (reference .t)) (2 ∷ [])
+unfolding reference
+new-2 = Each.cons {x = 2} (omega arith, omega arith) Each.nil
+
 pub exampleH-holds : Says (edit exampleH)
 unfolding body choose reference spelled noded planted facts held matches source full void was seek orElse starts stands slotOf slotsOf grows among filled gives givenUp below
-exampleH-holds = edit-says exampleH treeV (λ w u. refl)
+exampleH-holds = row-says exampleH treeV (λ w u. refl) (omega arith) (omega arith) Each.nil
+
+exampleK-holds : Says (edit exampleK)
+unfolding body choose reference spelled noded planted facts held matches source full void was seek orElse starts stands slotOf slotsOf grows among filled gives givenUp below
+exampleK-holds = row-says exampleK treeU (λ w u. refl) (omega arith) (omega arith) Each.nil
+
+pub exampleJ-holds : Says (refusal 1000 kindsV 2 2 [] (Syntax 2 56))
+unfolding run turn leaf inner grown body lit marked cell cells zeros choose reference
+exampleJ-holds = (exampleH-holds .0, syntax-says 20 1000 2 2 2 56 kindsV [] (omega arith) refl)
+
+beyond-holds : Says (refusal 1000 kindsU 3 1 [] (BeyondTokens 3))
+beyond-holds = (exampleK-holds .0, beyond-says 1000 3 1 kindsU [] (omega arith))
 
 -- every example holds
 pub examples-hold : Each Says examples
 unfolding examples run turn leaf inner grown body lit marked cell cells zeros choose reference spelled noded planted facts held matches source full void was seek orElse starts stands slotOf slotsOf grows among filled gives givenUp below
 examples-hold =
     Each.cons counted
-    (Each.cons (point-says 9 10 4 10 (omega arith) (omega arith) (omega arith) at-9-10-4)
-    (Each.cons (point-says 7 6 1 7 (omega arith) (omega arith) (omega arith) at-7-6-1)
-    (Each.cons (point-says 8 9 3 255 (omega arith) (omega arith) (omega arith) at-8-9-3)
-    (Each.cons (point-says 8 10 2 0 (omega arith) (omega arith) (omega arith) at-8-10-2)
+    (Each.cons (point-says 9 10 4 10 (omega arith) (omega arith) (omega arith) (omega arith) (omega arith) at-9-10-4)
+    (Each.cons (point-says 7 6 1 7 (omega arith) (omega arith) (omega arith) (omega arith) (omega arith) at-7-6-1)
+    (Each.cons (point-says 8 9 3 255 (omega arith) (omega arith) (omega arith) (omega arith) (omega arith) at-8-9-3)
+    (Each.cons (point-says 8 10 2 0 (omega arith) (omega arith) (omega arith) (omega arith) (omega arith) at-8-10-2)
     (Each.cons empty-tree
     (Each.cons (parse-says 20 _ _ _ refl)
     (Each.cons (parse-says 20 _ _ _ refl)
@@ -255,9 +334,9 @@ examples-hold =
     (Each.cons (parse-says 20 _ _ _ refl)
     (Each.cons (parse-says 20 _ _ _ refl)
     (Each.cons (parse-says 40 _ _ _ refl)
-    (Each.cons (edit-says exampleG treeU (λ w u. refl))
+    (Each.cons (row-says exampleG treeU (λ w u. refl) (omega arith) (omega arith) new-4-2)
     (Each.cons exampleH-holds
-    (Each.cons (edit-says exampleI treeV (λ w u. refl))
-    (Each.cons (syntax-says 20 1000 2 2 _ _ kindsV [] (omega arith) refl)
-    (Each.cons (edit-says exampleK treeU (λ w u. refl))
-    (Each.cons (beyond-says 1000 3 1 kindsU [] (omega arith)) Each.nil))))))))))))))))))
+    (Each.cons (row-says exampleI treeV (λ w u. refl) (omega arith) (omega arith) new-3)
+    (Each.cons exampleJ-holds
+    (Each.cons exampleK-holds
+    (Each.cons beyond-holds Each.nil))))))))))))))))))

@@ -2,6 +2,7 @@
 pub mod Words
 pub mod Ready
 pub mod Entries
+pub mod Sums
 -- A parse that can be run.
 pub mod Run
 -- Which slots an edit keeps, and tests of a new tree, computed.

@@ -1,8 +1,8 @@
--- Poor programs that the contracts of prepare, parse and edit rule out: one that refuses everything, one that has one reply for all, and edits that touch nothing, reparse, or keep too much.
-use Prim.Native.Nat.{ℕ, zero, suc, _*_, _≤_}
+-- Poor programs that the contracts of prepare, parse, edit and read back rule out: one that refuses everything, one that has one reply for all, and edits that touch nothing, reparse, or keep too much.
+use Prim.Native.Nat.{ℕ, zero, suc, _*_, _≤_, _<_}
 use mathlib.Core.Path.{_≡_, refl, ap, sym, _∙_}
-use mathlib.Core.List.{List, [], _∷_}
-use lib.ListN.{length, getD}
+use mathlib.Core.List.{List, [], _∷_, _++_}
+use lib.ListN.{length, drop, getD}
 use native.Mathlib.Omega.{arith}
 use Rattle.base.specs.Choose.{choose, never}
 use Rattle.base.specs.Bytes.{leBytes}
@@ -10,7 +10,7 @@ use Rattle.base.specs.Blocks.{zeros, byte-zeros, length-zeros}
 use Rattle.grammar.specs.Each.{Each}
 use Rattle.grammar.specs.Grammar.{Grammar, TerminalOf}
 use Rattle.grammar.specs.Prediction.{Prepared}
-use Rattle.grammar.specs.Forest.{Token, Forest, yield}
+use Rattle.grammar.specs.Forest.{Token, Forest, size, yield}
 use Rattle.grammar.specs.Image.{bad-head}
 use Rattle.grammar.specs.Images.{bad-one}
 use Rattle.grammar.specs.Reference.{reference, referenceImage, reference-image}
@@ -18,7 +18,8 @@ use Rattle.tables.specs.Tables.{tablesSize, Tables}
 use Rattle.trees.specs.Area.{areaSize, top, Area, Valid}
 use Rattle.trees.specs.Nodes.{preorder}
 use Rattle.plain.specs.Plain.{Verdict, accepted, syntax, noRoom, Parses}
-use Rattle.plain.specs.Tokens.{Tagged, Sentence, bad-not-sentence}
+use Rattle.plain.specs.One.{runs-one}
+use Rattle.plain.specs.Tokens.{Tagged, tokenBytes, Sentence, bad-not-sentence}
 use Rattle.plain.specs.Machine.{marked}
 use Rattle.edits.specs.Keeping.{edited}
 use Rattle.sentences.specs.Forming.{editOf}
@@ -26,12 +27,12 @@ use Rattle.replies.specs.Reply.{noCounts, countsOf}
 use Rattle.replies.specs.declared.Counts.{Counts}
 use Rattle.replies.specs.declared.Reply.{Reply}
 use Rattle.replies.specs.declared.Reason.{Reason}
-use Rattle.replies.specs.declared.Reason.the-variants.{BadGrammar, Syntax, NoRoom}
+use Rattle.replies.specs.declared.Reason.the-variants.{BadGrammar, Syntax, NoRoom, ShortOutput}
 use Rattle.replies.specs.declared.Reply.the-variants.{Accepted, Refused}
-use Rattle.kindlesap.specs.Judged.{Opened, bad-image, good-image, opened-fit}
+use Rattle.kindlesap.specs.Judged.{Opened, fit, bad-image, good-image, opened-fit}
 use Rattle.kindlesap.specs.Prepare.{Writes, wrong-size, written, Prepares}
 use Rattle.kindlesap.specs.Parse.{workAreas, Sized, parseCounts, Stored, Fits, wrong-tables, wrong-area, short-work, bad-token, wrong-syntax, no-room, stored, ParseOutcome, stored-parses, verdict-one}
-use Rattle.kindlesap.specs.ReadBack.{trees-one}
+use Rattle.kindlesap.specs.ReadBack.{readCounts, needed, short-output, returned, ReadOutcome, trees-one, read-one}
 use Rattle.kindlesap.specs.Edit as calls
 use Rattle.kindlesap.specs.Edited.{edit-renews}
 use Rattle.worked.specs.Ready.{below, reference-prepared, cells}
@@ -39,8 +40,8 @@ use Rattle.worked.specs.Entries.{cell, referenceTables, reference-tables
 use Rattle.worked.specs.Run.{body, lit, leaf, grown, inner, turn, run}
 use Rattle.worked.specs.Match.{orElse, seek, starts, stands, was, full, void, source, matches, slotOf, slotsOf, held}
 use Rattle.worked.specs.Alter.{grows, among, filled, gives, givenUp}
-use Rattle.worked.specs.Edits.{Cell, kept, made, cellsOf, Row, Setting, Remade, setting, spelled, spelled-tags, noded, planted, facts, stored-found, edit-says, syntax-says}
-use Rattle.worked.specs.Examples.{kindsU, kindsV, treeU, treeV, exampleH, exampleH-holds, parse-says}
+use Rattle.worked.specs.Edits.{Cell, kept, made, cellsOf, Row, Setting, Remade, spelled, noded, planted, facts, valid, old-length}
+use Rattle.worked.specs.Examples.{edit, Says, kindsU, kindsV, treeU, exampleH, row-says, new-2, exampleH-holds, exampleJ-holds, parse-says}
 
 -- the reference image passes replies 1 to 3
 opened-reference : {Q : Grammar → Reply → List ℕ → Type 0} {w w' : List ℕ} {r : Reply} → Opened referenceImage Q w r w' → Q reference r w'
@@ -167,13 +168,13 @@ stored-root (Forest.node s M p k r) h e = let q = h .order in let z : s ≡ 1 = 
 
 -- example H: of V, at 0 remove 3
 module _ (x : Setting 1000 kindsV []) {q : Reply} {tree' work' : List ℕ} (h : calls.EditOutcome referenceImage referenceTables (x .tree) 0 3 (x .tokens) (x .work) q tree' work') where
-  comes : (q ≡ Accepted (calls.editCounts 9 9 0 8)) × (tree' ≡ exampleH-holds x .bytes) × (work' ≡ zeros (length (x .work)))
-  comes = calls.edit-one h (exampleH-holds x .outcome)
+  comes : (q ≡ Accepted (calls.editCounts 9 9 0 8)) × (tree' ≡ exampleH-holds .1 x .bytes) × (work' ≡ zeros (length (x .work)))
+  comes = calls.edit-one h (exampleH-holds .1 x .outcome)
 
   -- the tree that it leaves has its root in slot 9
   root-nine : (v : Valid reference 1000 tree') → top (v .tree) ≡ 9
   root-nine v =
-      let m : Remade exampleH x = exampleH-holds x in
+      let m : Remade exampleH x = exampleH-holds .1 x in
       let u : Valid reference 1000 tree' = record { some = v .some; few = v .few; tree = m .tree; derives = m .altered .derives; area = rw (comes .1) (m .area) } in
       ap top (trees-one v u) ∙ root-slot (m .altered .held) (m .tree) _ _ (m .nodes)
 
@@ -205,13 +206,14 @@ equalToken =
       nodes = kept 1 6 1 ∷ kept 2 7 3 ∷ kept 3 1 0 ∷ made 4 8 4 ∷ made 5 2 0 ∷ made 6 9 6 ∷ kept 7 10 8 ∷ kept 8 5 0 ∷ kept 9 6 2 ∷ [];
     }
 
-equal-token : (x : Setting 1000 kindsU (2 ∷ [])) → Remade equalToken x
+-- there is such a setting, and in each the edit does so
+pub equal-token : Says (edit equalToken)
 unfolding body choose reference spelled noded planted facts held matches source full void was seek orElse starts stands slotOf slotsOf grows among filled gives givenUp below
-equal-token = edit-says equalToken treeU (λ w u. refl)
+equal-token = row-says equalToken treeU (λ w u. refl) (omega arith) (omega arith) new-2
 
 module _ (x : Setting 1000 kindsU (2 ∷ [])) {q : Reply} {tree' work' : List ℕ} (h : calls.EditOutcome referenceImage referenceTables (x .tree) 1 1 (x .tokens) (x .work) q tree' work') where
   pub equal-token-counts : q ≡ Accepted (calls.editCounts 9 6 3 3)
-  equal-token-counts = calls.edit-one h (equal-token x .outcome) .0
+  equal-token-counts = calls.edit-one h (equal-token .1 x .outcome) .0
 
   -- no program keeps a node whose first token is new, though equal to a removed one
   pub edit-not-equal-kept : q ≡ Accepted (calls.editCounts 9 9 0 0) → ⊥
@@ -222,20 +224,18 @@ module _ (x : Setting 1000 kindsU (2 ∷ [])) {q : Reply} {tree' work' : List �
   edit-not-void-kept e = absurd (omega (arith, ap (λ (r : Reply). countsOf r .kept) (sym equal-token-counts ∙ e)))
 
 -- there is such a tree: V with tags 0
-settingV : Setting 1000 kindsV []
-unfolding body choose reference spelled noded planted facts held matches source full void was seek orElse starts stands slotOf slotsOf grows among filled gives givenUp below
-settingV = setting [] (omega arith) (omega arith) (stored-found exampleH treeV (λ w u. refl) [] []) (spelled-tags kindsV) Each.nil Each.nil
+abbrev pub settingV : Setting 1000 kindsV []
+settingV = exampleH-holds .0
 
 -- no program has one reply for all, not even for all edits of one tree: examples H and J
 pub edit-not-one-reply : (r : Reply) → ((tree : List ℕ) (place removed : ℕ) (tokens work : List ℕ)
     → (tree' : List ℕ) × (work' : List ℕ) × calls.EditOutcome referenceImage referenceTables tree place removed tokens work r tree' work') → ⊥
-unfolding run turn leaf inner grown body lit marked cell cells zeros choose reference
 edit-not-one-reply r f =
     let x : Setting 1000 kindsV [] = settingV in
     let a = f (x .tree) 0 3 (x .tokens) (x .work) in
     let b = f (x .tree) 2 2 (x .tokens) (x .work) in
     let y = comes x (a .2) .0 in
-    let z = calls.edit-one (b .2) (syntax-says 20 1000 2 2 2 56 kindsV [] (omega arith) refl x) .0 in
+    let z = calls.edit-one (b .2) (exampleJ-holds .1 x) .0 in
     never (cc)
 
 -- no program only claims success, from whichever valid tree: where the area is left as it was, the sentence was not to change
@@ -246,3 +246,40 @@ edit-not-claimed c h = let r = edit-renews c h refl in sym (r .yields) ∙ ap yi
 -- no program leaves a byte of work that is not 0, whatever it replies
 pub edit-clears : {image tables tree tokens work tree' work' : List ℕ} {place removed : ℕ} {r : Reply} → calls.EditOutcome image tables tree place removed tokens work r tree' work' → (i : ℕ) → getD work' i 0 ≡ 0
 edit-clears {work = work} h i = ap (λ (u : List ℕ). getD u i 0) (h .cleared) ∙ byte-zeros (length work) i
+
+-- ---- read back
+
+nodes-seventeen : (x : Setting 1000 kindsV []) → size (x .old) ≡ 17
+unfolding run turn leaf inner grown body lit marked cell cells zeros choose reference
+nodes-seventeen x =
+    let q : accepted (size (x .old)) ≡ accepted 17 =
+    runs-one reference-prepared (stored-parses reference-prepared (x .some) (x .stored)) (parse-says 40 1000 kindsV (accepted 17) refl (x .sentence) (x .sentence-kinds)) in
+    cc
+
+-- of the tree of V, 17 nodes and 30 bytes of tokens
+module _ (x : Setting 1000 kindsV []) {output output' : List ℕ} {r : Reply} where
+  -- an output that is long enough is accepted, and has the tokens
+  pub read-accepted : 30 ≤ length output → ReadOutcome referenceImage (x .tree) output r output' → (r ≡ Accepted (readCounts 17)) × (output' ≡ tokenBytes (x .sentence) ++ drop 30 output)
+  read-accepted l h =
+      let n : needed (x .old) ≡ 30 = omega (arith, old-length x) in
+      let q = read-one h (good-image reference-image (fit reference-prepared (returned (valid x) (omega (arith, n, l))))) in
+      (q .0 ∙ ap (λ (k : ℕ). Accepted (readCounts k)) (nodes-seventeen x), q .1 ∙ rw (n, x .stored .yields))
+
+  -- a shorter one is refused, and told the length
+  pub read-short : length output < 30 → ReadOutcome referenceImage (x .tree) output r output' → r ≡ Refused (ShortOutput 30)
+  read-short l h =
+      let n : needed (x .old) ≡ 30 = omega (arith, old-length x) in
+      read-one h (good-image reference-image (fit reference-prepared (short-output (valid x) (omega (arith, n, l))))) .0 ∙ ap (λ (k : ℕ). Refused (ShortOutput k)) n
+
+-- no program refuses everything
+pub read-not-refused : (output output' : List ℕ) (y : Reason) → 30 ≤ length output → ReadOutcome referenceImage (settingV .tree) output (Refused y) output' → ⊥
+read-not-refused output output' y l h = let e = read-accepted settingV l h .0 in never (cc)
+
+-- no program has one reply for all, not even for all outputs of one tree
+pub read-not-one-reply : (r : Reply) → ((output : List ℕ) → (output' : List ℕ) × ReadOutcome referenceImage (settingV .tree) output r output') → ⊥
+read-not-one-reply r f =
+    let a = f (zeros 30) in
+    let b = f [] in
+    let y = read-accepted settingV (omega (arith, length-zeros 30)) (a .1) .0 in
+    let z = read-short settingV (omega arith) (b .1) in
+    never (cc)
