@@ -3,20 +3,19 @@ use Prim.Native.Nat.{ℕ, zero, suc, _+_, _*_, _≤_, _<_}
 use mathlib.Core.Path.{_≡_, refl, sym, ap, _∙_, subst}
 use mathlib.Core.Bool.{Bool, true}
 use mathlib.Core.Option.{some}
-use mathlib.Core.List.{List, [], _∷_, _++_, List·Memᴰ}
+use mathlib.Core.List.{List, [], _∷_, _++_}
 use lib.ListN.{length, take, drop}
 use lib.Dec.{leb}
 use borrow.Author.Tests.{leb-true}
 use native.Mathlib.Omega.{arith}
 use Rattle.base.specs.Choose.{never}
 use Rattle.base.specs.Blocks.{zeros, length-zeros}
-use Rattle.grammar.specs.Each.{Each, each-join, each-map}
+use Rattle.grammar.specs.Each.{Each, each-join}
 use Rattle.grammar.specs.Grammar.{TerminalOf}
 use Rattle.grammar.specs.Forest.{Token, kinds, Forest, size, yield}
 use Rattle.grammar.specs.Trees.{kinds-append}
 use Rattle.grammar.specs.Reference.{reference, referenceImage, reference-image}
-use Rattle.trees.specs.Area.{maxSlots, tagSpace, slots, Distinct, Area, Valid}
-use Rattle.trees.specs.Members.{each-mem}
+use Rattle.trees.specs.Area.{maxSlots, tagSpace, slots, Area, Valid}
 use Rattle.trees.specs.Nodes.{Node, leafNode, innerNode, preorder, build}
 use Rattle.plain.specs.Plain.{syntax, Parses}
 use Rattle.plain.specs.Tokens.{Tagged, tokenBytes, Sentence}
@@ -36,6 +35,7 @@ use Rattle.worked.specs.Entries.{referenceTables, reference-tables}
 use Rattle.worked.specs.Run.{body, run, run-right}
 use Rattle.worked.specs.Match.{held, held-right}
 use Rattle.worked.specs.Laid.{laid}
+use Rattle.worked.specs.Ordered.{stored-laid}
 use Rattle.worked.specs.Alter.{grows, grows-derives, gives, gives-given, givenUp, given-up-right}
 
 -- ---- what an example says of an edit
@@ -100,23 +100,10 @@ pub record Remade (r : Row) (x : Setting (r .S) (r .sentence) (r .inserted)) : T
 
 -- ---- of each sentence that parse stores, and each tokens to insert, there is a setting
 
-up-within : (s n : ℕ) → Each (λ x. (s ≤ x) × (x < s + n)) (upFrom s n)
-up-within s zero = Each.nil
-up-within s (suc n) = Each.cons {x = s} (omega arith, omega arith) (each-map (λ x h. (omega arith, omega arith)) (up-within (s + 1) n))
-
-up-distinct : (s n : ℕ) → Distinct (upFrom s n)
-up-distinct s zero = Distinct.nil
-up-distinct s (suc n) = Distinct.cons new (up-distinct (s + 1) n)
-  where
-    new : List·Memᴰ s (upFrom (s + 1) n) → ⊥
-    new m = let h = each-mem (upFrom (s + 1) n) (up-within (s + 1) n) m in omega arith
-
 setting : {S : ℕ} {w : List Token} {f : Forest} (u : List Token) → 1 ≤ S → S ≤ maxSlots → Stored reference S w f → Each Tagged w → Each (TerminalOf (reference .t)) (kinds u) → Each Tagged u
     → Setting S (kinds w) (kinds u)
 setting {S} {w} {f} u l m h t i j =
-    let d : Distinct (slots f) = rw (h .order) (up-distinct 1 (size f)) in
-    let e : Each (λ s. (1 ≤ s) × (s ≤ S)) (slots f) = rw (h .order) (each-map (λ x y. let z = h .fits in (y .0, omega arith)) (up-within 1 (size f))) in
-    let b = laid S f d e (rw (h .yields) t) in
+    let b = stored-laid h t in
     record {
       some = l;
       few = m;
@@ -160,13 +147,13 @@ spelled-is (a ∷ ks) (k ∷ w) e =
     let z : k .kind ≡ a = cc in
     rw (spelled-is ks w q, ← z)
 
-kinds-spelled : (ks : List ℕ) (w : List Token) → kinds (spelled ks w) ≡ ks
+pub kinds-spelled : (ks : List ℕ) (w : List Token) → kinds (spelled ks w) ≡ ks
 unfolding spelled
 kinds-spelled [] w = refl
 kinds-spelled (k ∷ ks) w = ap (λ (ls : List ℕ). k ∷ ls) (kinds-spelled ks (tailOf w))
 
 -- tags that are not given are 0
-spelled-tags : (ks : List ℕ) → Each Tagged (spelled ks [])
+pub spelled-tags : (ks : List ℕ) → Each Tagged (spelled ks [])
 unfolding spelled
 spelled-tags [] = Each.nil
 spelled-tags (k ∷ ks) = let l : 0 < tagSpace = omega arith in Each.cons l (spelled-tags ks)

@@ -1,6 +1,7 @@
 -- The starred examples of document 01: one table, proved by one statement about the definitions.
 use Prim.Native.Nat.{ℕ, _+_, _-_, _*_, _≤_, _<_}
 use mathlib.Core.Path.{_≡_, refl, ap, _∙_}
+use mathlib.Core.Bool.{true}
 use mathlib.Core.Option.{some}
 use mathlib.Core.List.{List, [], _∷_}
 use lib.ListN.{getD}
@@ -10,10 +11,8 @@ use Rattle.base.specs.Choose.{choose}
 use Rattle.base.specs.Blocks.{zeros}
 use Rattle.grammar.specs.Limits.{columns}
 use Rattle.grammar.specs.Each.{Each}
-use Rattle.grammar.specs.Grammar.{TerminalOf}
 use Rattle.grammar.specs.Prediction.{Break}
 use Rattle.grammar.specs.Forest.{Token, kinds, Forest, Derives}
-use Rattle.grammar.specs.Rows.{symbolSpace}
 use Rattle.grammar.specs.Reference.{reference}
 use Rattle.predictions.specs.Hits.{hasb}
 use Rattle.tables.specs.Tables.{rowSymbol, Prediction, Tables}
@@ -34,6 +33,7 @@ use Rattle.worked.specs.Sums.{sum, sum-same, sum-none, sum-first, sum-ro
 use Rattle.worked.specs.Run.{body, lit, leaf, grown, inner, turn, run, run-right}
 use Rattle.worked.specs.Match.{orElse, seek, starts, stands, was, full, void, source, matches, slotOf, slotsOf, held}
 use Rattle.worked.specs.Alter.{grows, among, filled, gives, givenUp}
+use Rattle.worked.specs.Calls.{Given, Ends, spoken, spoken-right, given, ends}
 use Rattle.worked.specs.Edits.{Cell, kept, made, Row, Setting, Replies, Remade, spelled, noded, planted, facts, Found, found-setting, edit-says, syntax-says, beyond-says}
 
 -- ---- what an example says
@@ -73,7 +73,7 @@ pub data Example : Type 0 where
   breakPoint : (M N a v : ℕ) → Example
   -- C. the tree of a sentence, stored in S slots
   tree : (S : ℕ) (w : List Token) (f : Forest) → Example
-  -- C to F. how a sentence of these kinds, whatever its tags, ends in S slots
+  -- C to F. how a sentence of these kinds, whatever its tags, ends in S slots: by the plain parse, and by the call, which can be made
   parse : (S : ℕ) (ks : List ℕ) (v : Verdict) → Example
   -- G to K. there is a tree that parse leaves of the sentence, and there are such new tokens; and whatever the tags of both, the edit of that tree is accepted
   edit : (r : Row) → Example
@@ -84,7 +84,7 @@ abbrev pub Says : Example → Type 0
 Says (counts p b e) = Counted p b e
 Says (breakPoint M N a v) = Break reference M N a v × ((w : List ℕ) → Tables reference w → getD w (breakByte (M - 6) (N - 6) a) 0 ≡ v)
 Says (tree S w f) = Stored reference S w f
-Says (parse S ks v) = (w : List Token) → kinds w ≡ ks → Parses reference S w v
+Says (parse S ks v) = Given S ks × ((w : List Token) → kinds w ≡ ks → Parses reference S w v) × ((x : Given S ks) → Ends x v)
 Says (edit r) = Setting (r .S) (r .sentence) (r .inserted) × ((x : Setting (r .S) (r .sentence) (r .inserted)) → Remade r x)
 Says (refusal S ks place removed new reason) = Setting S ks new × ((x : Setting S ks new) → Replies x place removed (Refused reason) (x .tree))
 
@@ -273,9 +273,12 @@ empty-tree : Says (tree 1000 [] (Forest.node 1 6 2 Forest.nil Forest.nil))
 unfolding reference
 empty-tree = record { derives = Derives.node (record { found = refl }) Derives.nil Derives.nil; yields = refl; fits = omega arith; order = refl }
 
-pub parse-says : (fuel S : ℕ) (ks : List ℕ) (v : Verdict) → run fuel S (6 ∷ []) ks 1 0 ≡ some v → Says (parse S ks v)
+pub run-says : (fuel S : ℕ) (ks : List ℕ) (v : Verdict) → run fuel S (6 ∷ []) ks 1 0 ≡ some v → (w : List Token) → kinds w ≡ ks → Parses reference S w v
 unfolding reference
-parse-says fuel S ks v e w q = run-right fuel S (6 ∷ []) w 1 0 v (rw q e)
+run-says fuel S ks v e w q = run-right fuel S (6 ∷ []) w 1 0 v (rw q e)
+
+parse-says : (fuel S : ℕ) (ks : List ℕ) (v : Verdict) → 1 ≤ S → S ≤ maxSlots → spoken ks ≡ true → run fuel S (6 ∷ []) ks 1 0 ≡ some v → Says (parse S ks v)
+parse-says fuel S ks v l m k e = (given S ks l m k, run-says fuel S ks v e, λ x. ends x v (run-says fuel S ks v e (x .sentence) (x .sentence-kinds)))
 
 -- the trees that parse leaves of U and V
 abbrev pub treeU : List Cell
@@ -286,29 +289,16 @@ treeV =
     made 1 6 1 ∷ made 2 7 3 ∷ made 3 1 0 ∷ made 4 8 4 ∷ made 5 2 0 ∷ made 6 9 6 ∷ made 7 10 8 ∷ made 8 5 0 ∷ made 9 6 1 ∷ made 10 7 3 ∷ made 11 1 0 ∷ made 12 8 4 ∷ made 13 2 0 ∷ made 14 9 6 ∷
     made 15 10 8 ∷ made 16 5 0 ∷ made 17 6 2 ∷ []
 
-pub row-says : (r : Row) (olds : List Cell) → Found r olds → 1 ≤ r .S → r .S ≤ maxSlots → Each (TerminalOf (reference .t)) (r .inserted) → Says (edit r)
-row-says r olds found l m i = (found-setting r olds found l m i, edit-says r olds found)
-
--- `4 2`, `3` and `2`
-new-4-2 : Each (TerminalOf (reference .t)) (4 ∷ 2 ∷ [])
-unfolding reference
-new-4-2 = Each.cons {x = 4} (omega arith, omega arith) (Each.cons {x = 2} (omega arith, omega arith) Each.nil)
-
-new-3 : Each (TerminalOf (reference .t)) (3 ∷ [])
-unfolding reference
-new-3 = Each.cons {x = 3} (omega arith, omega arith) Each.nil
-
-pub new-2 : Each (TerminalOf (reference .t)) (2 ∷ [])
-unfolding reference
-new-2 = Each.cons {x = 2} (omega arith, omega arith) Each.nil
+pub row-says : (r : Row) (olds : List Cell) → Found r olds → 1 ≤ r .S → r .S ≤ maxSlots → spoken (r .inserted) ≡ true → Says (edit r)
+row-says r olds found l m i = (found-setting r olds found l m (spoken-right (r .inserted) i), edit-says r olds found)
 
 pub exampleH-holds : Says (edit exampleH)
-unfolding body choose reference spelled noded planted facts held matches source full void was seek orElse starts stands slotOf slotsOf grows among filled gives givenUp below
-exampleH-holds = row-says exampleH treeV (λ w u. refl) (omega arith) (omega arith) Each.nil
+unfolding body choose reference spelled noded planted facts held matches source full void was seek orElse starts stands slotOf slotsOf grows among filled gives givenUp below spoken
+exampleH-holds = row-says exampleH treeV (λ w u. refl) (omega arith) (omega arith) refl
 
 exampleK-holds : Says (edit exampleK)
-unfolding body choose reference spelled noded planted facts held matches source full void was seek orElse starts stands slotOf slotsOf grows among filled gives givenUp below
-exampleK-holds = row-says exampleK treeU (λ w u. refl) (omega arith) (omega arith) Each.nil
+unfolding body choose reference spelled noded planted facts held matches source full void was seek orElse starts stands slotOf slotsOf grows among filled gives givenUp below spoken
+exampleK-holds = row-says exampleK treeU (λ w u. refl) (omega arith) (omega arith) refl
 
 pub exampleJ-holds : Says (refusal 1000 kindsV 2 2 [] (Syntax 2 56))
 unfolding run turn leaf inner grown body lit marked cell cells zeros choose reference
@@ -319,7 +309,7 @@ beyond-holds = (exampleK-holds .0, beyond-says 1000 3 1 kindsU [] (omega arith))
 
 -- every example holds
 pub examples-hold : Each Says examples
-unfolding examples run turn leaf inner grown body lit marked cell cells zeros choose reference spelled noded planted facts held matches source full void was seek orElse starts stands slotOf slotsOf grows among filled gives givenUp below
+unfolding examples run turn leaf inner grown body lit marked cell cells zeros choose reference spelled noded planted facts held matches source full void was seek orElse starts stands slotOf slotsOf grows among filled gives givenUp below spoken
 examples-hold =
     Each.cons counted
     (Each.cons (point-says 9 10 4 10 (omega arith) (omega arith) (omega arith) (omega arith) (omega arith) at-9-10-4)
@@ -327,16 +317,16 @@ examples-hold =
     (Each.cons (point-says 8 9 3 255 (omega arith) (omega arith) (omega arith) (omega arith) (omega arith) at-8-9-3)
     (Each.cons (point-says 8 10 2 0 (omega arith) (omega arith) (omega arith) (omega arith) (omega arith) at-8-10-2)
     (Each.cons empty-tree
-    (Each.cons (parse-says 20 _ _ _ refl)
-    (Each.cons (parse-says 20 _ _ _ refl)
-    (Each.cons (parse-says 20 _ _ _ refl)
-    (Each.cons (parse-says 20 _ _ _ refl)
-    (Each.cons (parse-says 20 _ _ _ refl)
-    (Each.cons (parse-says 20 _ _ _ refl)
-    (Each.cons (parse-says 40 _ _ _ refl)
-    (Each.cons (row-says exampleG treeU (λ w u. refl) (omega arith) (omega arith) new-4-2)
+    (Each.cons (parse-says 20 1000 _ _ (omega arith) (omega arith) refl refl)
+    (Each.cons (parse-says 20 9 _ _ (omega arith) (omega arith) refl refl)
+    (Each.cons (parse-says 20 8 _ _ (omega arith) (omega arith) refl refl)
+    (Each.cons (parse-says 20 9 _ _ (omega arith) (omega arith) refl refl)
+    (Each.cons (parse-says 20 8 _ _ (omega arith) (omega arith) refl refl)
+    (Each.cons (parse-says 20 1000 _ _ (omega arith) (omega arith) refl refl)
+    (Each.cons (parse-says 40 1000 _ _ (omega arith) (omega arith) refl refl)
+    (Each.cons (row-says exampleG treeU (λ w u. refl) (omega arith) (omega arith) refl)
     (Each.cons exampleH-holds
-    (Each.cons (row-says exampleI treeV (λ w u. refl) (omega arith) (omega arith) new-3)
+    (Each.cons (row-says exampleI treeV (λ w u. refl) (omega arith) (omega arith) refl)
     (Each.cons exampleJ-holds
     (Each.cons exampleK-holds
     (Each.cons beyond-holds Each.nil))))))))))))))))))

@@ -8,10 +8,12 @@ pub mod Run
 -- Which slots an edit keeps, and tests of a new tree, computed.
 pub mod Match
 pub mod Alter
--- Trees with right slots and tags have an area.
+-- Trees with right slots and tags have an area, and accepted sentences such a tree.
 pub mod Laid
--- Edits of trees that parse leaves, as rows of the table.
+pub mod Ordered
+-- Edits of trees that parse leaves, and calls of parse, as rows of the table.
 pub mod Edits
+pub mod Calls
 -- The table of examples, and poor programs that the contract rules out.
 pub mod Examples
 pub mod Poor

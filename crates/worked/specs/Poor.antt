@@ -40,8 +40,9 @@ use Rattle.worked.specs.Entries.{cell, referenceTables, reference-tables
 use Rattle.worked.specs.Run.{body, lit, leaf, grown, inner, turn, run}
 use Rattle.worked.specs.Match.{orElse, seek, starts, stands, was, full, void, source, matches, slotOf, slotsOf, held}
 use Rattle.worked.specs.Alter.{grows, among, filled, gives, givenUp}
+use Rattle.worked.specs.Calls.{spoken}
 use Rattle.worked.specs.Edits.{Cell, kept, made, cellsOf, Row, Setting, Remade, spelled, noded, planted, facts, valid, old-length}
-use Rattle.worked.specs.Examples.{edit, Says, kindsU, kindsV, treeU, exampleH, row-says, new-2, exampleH-holds, exampleJ-holds, parse-says}
+use Rattle.worked.specs.Examples.{edit, Says, kindsU, kindsV, treeU, exampleH, row-says, exampleH-holds, exampleJ-holds, run-says}
 
 -- the reference image passes replies 1 to 3
 opened-reference : {Q : Grammar → Reply → List ℕ → Type 0} {w w' : List ℕ} {r : Reply} → Opened referenceImage Q w r w' → Q reference r w'
@@ -113,7 +114,7 @@ decided s p h =
 -- the empty sentence is accepted, with one node
 pub nothing-accepted : (tree' work' : List ℕ) (r : Reply) → ParseOutcome referenceImage referenceTables [] oneSlot itsWork r tree' work' → r ≡ Accepted (parseCounts 1)
 unfolding run turn leaf inner grown body lit marked cell cells zeros choose reference
-nothing-accepted tree' work' r h = decided (record { is = refl; kinds = Each.nil; tags = Each.nil }) (parse-says 2 1 [] (accepted 1) refl [] refl) h
+nothing-accepted tree' work' r h = decided (record { is = refl; kinds = Each.nil; tags = Each.nil }) (run-says 2 1 [] (accepted 1) refl [] refl) h
 
 -- a sentence may not begin with a semicolon, but with nothing or with allow
 abbrev pub semicolon : List ℕ
@@ -125,7 +126,7 @@ semicolon-refused tree' work' r h =
     let k : Token = record { kind = 5; tag = 0 } in
     let a : TerminalOf 5 5 = (omega arith, omega arith) in
     let b : Tagged k = omega arith in
-    decided (record { is = refl; kinds = Each.cons a Each.nil; tags = Each.cons b Each.nil }) (parse-says 2 1 (5 ∷ []) (syntax 0 3) refl (k ∷ []) refl) h
+    decided (record { is = refl; kinds = Each.cons a Each.nil; tags = Each.cons b Each.nil }) (run-says 2 1 (5 ∷ []) (syntax 0 3) refl (k ∷ []) refl) h
 
 -- no program refuses everything
 pub parse-not-refused : (tree' work' : List ℕ) (x : Reason) → ParseOutcome referenceImage referenceTables [] oneSlot itsWork (Refused x) tree' work' → ⊥
@@ -208,8 +209,8 @@ equalToken =
 
 -- there is such a setting, and in each the edit does so
 pub equal-token : Says (edit equalToken)
-unfolding body choose reference spelled noded planted facts held matches source full void was seek orElse starts stands slotOf slotsOf grows among filled gives givenUp below
-equal-token = row-says equalToken treeU (λ w u. refl) (omega arith) (omega arith) new-2
+unfolding body choose reference spelled noded planted facts held matches source full void was seek orElse starts stands slotOf slotsOf grows among filled gives givenUp below spoken
+equal-token = row-says equalToken treeU (λ w u. refl) (omega arith) (omega arith) refl
 
 module _ (x : Setting 1000 kindsU (2 ∷ [])) {q : Reply} {tree' work' : List ℕ} (h : calls.EditOutcome referenceImage referenceTables (x .tree) 1 1 (x .tokens) (x .work) q tree' work') where
   pub equal-token-counts : q ≡ Accepted (calls.editCounts 9 6 3 3)
@@ -253,7 +254,7 @@ nodes-seventeen : (x : Setting 1000 kindsV []) → size (x .old) ≡ 17
 unfolding run turn leaf inner grown body lit marked cell cells zeros choose reference
 nodes-seventeen x =
     let q : accepted (size (x .old)) ≡ accepted 17 =
-    runs-one reference-prepared (stored-parses reference-prepared (x .some) (x .stored)) (parse-says 40 1000 kindsV (accepted 17) refl (x .sentence) (x .sentence-kinds)) in
+    runs-one reference-prepared (stored-parses reference-prepared (x .some) (x .stored)) (run-says 40 1000 kindsV (accepted 17) refl (x .sentence) (x .sentence-kinds)) in
     cc
 
 -- of the tree of V, 17 nodes and 30 bytes of tokens

@@ -1,0 +1,102 @@
+-- Calls of parse with the reference grammar: what an example says of one, and how the plain parse gives it.
+use Prim.Native.Nat.{ℕ, _*_, _≤_}
+use mathlib.Core.Path.{_≡_, refl}
+use mathlib.Core.Bool.{Bool, true, _&&_}
+use mathlib.Core.List.{List, [], _∷_}
+use lib.ListN.{length}
+use lib.Dec.{leb}
+use borrow.Author.Tests.{leb-true}
+use native.Mathlib.Omega.{arith}
+use Rattle.base.specs.Blocks.{zeros, length-zeros}
+use Rattle.grammar.specs.Each.{Each}
+use Rattle.grammar.specs.Grammar.{TerminalOf}
+use Rattle.grammar.specs.Forest.{Token, kinds, Forest, size}
+use Rattle.grammar.specs.Reference.{reference, referenceImage, reference-image}
+use Rattle.trees.specs.Area.{maxSlots, areaSize, Area}
+use Rattle.plain.specs.Plain.{Verdict, accepted, syntax, noRoom, Parses}
+use Rattle.plain.specs.Tokens.{tokenBytes, Sentence}
+use Rattle.replies.specs.declared.Reply.{Reply}
+use Rattle.replies.specs.declared.Reason.the-variants.{Syntax, NoRoom}
+use Rattle.replies.specs.declared.Reply.the-variants.{Accepted, Refused}
+use Rattle.kindlesap.specs.Judged.{fit, good-image}
+use Rattle.kindlesap.specs.Parse.{workAreas, Sized, Stored, Fits, wrong-syntax, no-room, stored, ParseOutcome}
+use Rattle.worked.specs.Ready.{reference-prepared}
+use Rattle.worked.specs.Entries.{referenceTables, reference-tables}
+use Rattle.worked.specs.Match.{both-true}
+use Rattle.worked.specs.Ordered.{stores, stored-laid}
+use Rattle.worked.specs.Edits.{spelled, kinds-spelled, spelled-tags}
+
+-- ---- what an example says of a parse
+
+-- what parse is given: the bytes of a sentence of kinds ks, an area of S slots, and work enough; tags are free, and so is what stood in area and work
+pub record Given (S : ℕ) (ks : List ℕ) : Type 0 where
+  pub sentence : List Token
+  pub sentence-kinds : kinds sentence ≡ ks
+  pub tokens : List ℕ
+  pub spelt : Sentence (reference .t) tokens sentence
+  pub tree : List ℕ
+  pub sized : Sized S tree
+  pub work : List ℕ
+  pub long : workAreas * length tree ≤ length work
+
+-- the call gives this reply and this tree area
+abbrev pub Answers : {S : ℕ} {ks : List ℕ} → Given S ks → Reply → List ℕ → Type 0
+Answers x r tree' = ParseOutcome referenceImage referenceTables (x .tokens) (x .tree) (x .work) r tree' (zeros (length (x .work)))
+
+-- it is accepted, with n as total and made, and the sentence's tree is stored
+pub record Accepts {S : ℕ} {ks : List ℕ} (n : ℕ) (x : Given S ks) : Type 0 where
+  pub tree : Forest
+  pub stored : Stored reference S (x .sentence) tree
+  pub bytes : List ℕ
+  pub area : Area S tree bytes
+  pub outcome : Answers x (Accepted (record { total = n; kept = 0; made = n; «given_up» = 0 })) bytes
+
+-- as the plain parse ends; a refusal leaves the area as it was
+abbrev pub Ends : {S : ℕ} {ks : List ℕ} → Given S ks → Verdict → Type 0
+Ends x (accepted n) = Accepts n x
+Ends x (syntax i e) = Answers x (Refused (Syntax i e)) (x .tree)
+Ends x noRoom = Answers x (Refused NoRoom) (x .tree)
+
+-- ---- of all kinds 1..5 there is such a call
+
+unfoldable pub spoken : List ℕ → Bool
+spoken [] = true
+spoken (k ∷ ks) = leb 1 k && (leb k 5 && spoken ks)
+
+pub spoken-right : (ks : List ℕ) → spoken ks ≡ true → Each (TerminalOf (reference .t)) ks
+unfolding spoken reference
+spoken-right [] e = Each.nil
+spoken-right (k ∷ ks) e =
+    let u = both-true _ _ e in
+    let v = both-true _ _ (u .1) in
+    Each.cons (leb-true 1 k (u .0), leb-true k 5 (v .0)) (spoken-right ks (v .1))
+
+pub given : (S : ℕ) (ks : List ℕ) → 1 ≤ S → S ≤ maxSlots → spoken ks ≡ true → Given S ks
+given S ks l m e =
+    let n = length-zeros (areaSize S) in
+    record {
+      sentence = spelled ks [];
+      sentence-kinds = kinds-spelled ks [];
+      tokens = tokenBytes (spelled ks []);
+      spelt = record { is = refl; kinds = rw (kinds-spelled ks []) (spoken-right ks e); tags = spelled-tags ks };
+      tree = zeros (areaSize S);
+      sized = record { some = l; few = m; long = n };
+      work = zeros (workAreas * areaSize S);
+      long = omega (arith, n, length-zeros (workAreas * areaSize S));
+    }
+
+-- ---- it is right
+
+module _ {S : ℕ} {ks : List ℕ} (x : Given S ks) where
+  answered : {r : Reply} {tree' : List ℕ} → Fits referenceTables (x .tokens) (length (x .work)) (x .tree) reference r tree' → Answers x r tree'
+  answered h = record { opened = good-image reference-image (fit reference-prepared h); cleared = refl }
+
+  pub ends : (v : Verdict) → Parses reference S (x .sentence) v → Ends x v
+  ends (accepted n) p =
+      let q = stores (x .sized .some) p in
+      let b = stored-laid (q .1) (x .spelt .tags) in
+      let h : Answers x (Accepted (record { total = size (q .0); kept = 0; made = size (q .0); «given_up» = 0 })) (b .0) =
+      answered (stored (q .0) reference-tables (x .sized) (x .long) (x .spelt) (q .1) (b .1)) in
+      record { tree = q .0; stored = q .1; bytes = b .0; area = b .1; outcome = rw (q .2) at h }
+  ends (syntax i e) p = answered (wrong-syntax reference-tables (x .sized) (x .long) (x .spelt) p)
+  ends noRoom p = answered (no-room reference-tables (x .sized) (x .long) (x .spelt) p)
