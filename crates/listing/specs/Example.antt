@@ -1,17 +1,43 @@
--- Document 01's example of the program's text: the tree of `01 00000000 02 07000000 05 00000000`, and its ten lines.
-use Prim.Native.Nat.{ℕ}
-use mathlib.Core.Path.{_≡_, refl}
+-- Document 01's example of the program's text: the input `01 00000000 02 07000000 05 00000000`, its tree, and its ten lines, which the program prints and nothing else.
+-- That replies 2 and 3 don't hold of the built-in grammar is supposed here, and proved in worked/specs/Ready.
+use Prim.Native.Nat.{ℕ, _*_, _≤_, _<_}
+use mathlib.Core.Path.{_≡_, refl, subst}
 use mathlib.Core.List.{List, [], _∷_, _++_}
-use Rattle.base.specs.Choose.{choose}
-use Rattle.grammar.specs.Forest.{Forest, nil, leaf, node}
-use Rattle.listing.specs.Text.{digitsOf, field, nodeRows, firstRow, acceptedText}
+use lib.ListN.{length}
+use native.Mathlib.Omega.{arith}
+use Rattle.base.specs.Bytes.{leBytes}
+use Rattle.base.specs.Blocks.{zeros, length-zeros}
+use Rattle.base.specs.Choose.{choose, never}
+use Rattle.grammar.specs.Each.{Each}
+use Rattle.grammar.specs.Prediction.{Prepared}
+use Rattle.grammar.specs.Forest.{Token, Forest, nil, leaf, node, Derives}
+use Rattle.grammar.specs.Reference.{reference, reference-image}
+use Rattle.tables.specs.Tables.{tablesSize, Tables}
+use Rattle.trees.specs.Area.{maxSlots, tagSpace, areaSize, Area}
+use Rattle.plain.specs.Plain as plain
+use Rattle.plain.specs.Tokens.{Sentence, sentence-one, bad-not-sentence}
+use Rattle.replies.specs.declared.Reply.{Reply}
+use Rattle.replies.specs.declared.Reply.the-variants.{Accepted}
+use Rattle.kindlesap.specs.Judged.{opened-fit}
+use Rattle.kindlesap.specs.Prepare as preparing
+use Rattle.kindlesap.specs.Parse.{workAreas, Sized, parseCounts, Stored, Fits, wrong-tables, wrong-area, short-work, bad-token, wrong-syntax, no-room, stored, sized-one, stored-one, stored-parses, verdict-one}
+use Rattle.listing.specs.Text.{digitsOf, field, nodeRows, firstRow, acceptedText, Parsed, Prints, too-long, refused, accepted}
+use Rattle.listing.specs.Printing.{prints-one}
+
+-- "01 00000000 02 07000000 05 00000000"
+abbrev pub exampleBytes : List ℕ
+exampleBytes = 1 ∷ 0 ∷ 0 ∷ 0 ∷ 0 ∷ 2 ∷ 7 ∷ 0 ∷ 0 ∷ 0 ∷ 5 ∷ 0 ∷ 0 ∷ 0 ∷ 0 ∷ []
+
+-- allow, host with tag 7, semicolon
+abbrev exampleTokens : List Token
+exampleTokens = record { kind = 1; tag = 0 } ∷ record { kind = 2; tag = 7 } ∷ record { kind = 5; tag = 0 } ∷ []
 
 -- Book 1 has the Rule 2 and the empty Book 9; the Rule has allow 3, the List 4 of host 5, tagged 7, and the empty Rest 6, the empty Bar 7 and semicolon 8
-abbrev exampleTree : Forest
+abbrev pub exampleTree : Forest
 exampleTree = node 1 6 1 (node 2 7 3 (leaf 3 1 0 (node 4 8 4 (leaf 5 2 7 (node 6 9 6 nil nil)) (node 7 10 8 nil (leaf 8 5 0 nil)))) (node 9 6 2 nil nil)) nil
 
 -- "accepted 9 3", "1 6 1 0 0" and so on
-abbrev exampleText : List ℕ
+abbrev pub exampleText : List ℕ
 exampleText =
     (97 ∷ 99 ∷ 99 ∷ 101 ∷ 112 ∷ 116 ∷ 101 ∷ 100 ∷ 32 ∷ 57 ∷ 32 ∷ 51 ∷ 10 ∷ []) ++
     ((49 ∷ 32 ∷ 54 ∷ 32 ∷ 49 ∷ 32 ∷ 48 ∷ 32 ∷ 48 ∷ 10 ∷ []) ++
@@ -27,3 +53,79 @@ exampleText =
 pub example : acceptedText exampleTree ≡ exampleText
 unfolding acceptedText firstRow nodeRows field digitsOf choose
 example = refl
+
+-- ---- the bytes are these tokens, and they have this tree
+
+spelt : Sentence (reference .t) exampleBytes exampleTokens
+unfolding reference leBytes
+spelt =
+    let none : 0 < tagSpace = omega arith in
+    let seven : 7 < tagSpace = omega arith in
+    record {
+      is = refl;
+      kinds = Each.cons {x = 1} (omega arith, omega arith) (Each.cons {x = 2} (omega arith, omega arith) (Each.cons {x = 5} (omega arith, omega arith) Each.nil));
+      tags = Each.cons none (Each.cons seven (Each.cons none Each.nil));
+    }
+
+grown : Stored reference maxSlots exampleTokens exampleTree
+unfolding reference
+grown =
+    record {
+      derives =
+          Derives.node (record { found = refl })
+          (Derives.node (record { found = refl })
+          (Derives.leaf {a = 1} (omega arith, omega arith)
+          (Derives.node (record { found = refl }) (Derives.leaf {a = 2} (omega arith, omega arith) (Derives.node (record { found = refl }) Derives.nil Derives.nil))
+          (Derives.node (record { found = refl }) Derives.nil (Derives.leaf {a = 5} (omega arith, omega arith) Derives.nil))))
+          (Derives.node (record { found = refl }) Derives.nil Derives.nil)) Derives.nil;
+      yields = refl;
+      fits = omega arith;
+      order = refl;
+    }
+
+-- ---- parse stores it
+
+module _ (g : Prepared reference) where
+  parses : plain.Parses reference maxSlots exampleTokens (plain.accepted 9)
+  parses = stored-parses g (omega arith) grown
+
+  fits-example : {tables tree b : List ℕ} {room : ℕ} {r : Reply} → Tables reference tables → Sized maxSlots tree → workAreas * length tree ≤ room → Fits tables exampleBytes room tree reference r b
+      → (r ≡ Accepted (parseCounts 9)) × Area maxSlots exampleTree b
+  fits-example t z l (wrong-tables n) = absurd (n t)
+  fits-example t z l (wrong-area u n) = absurd (n maxSlots z)
+  fits-example t z l (short-work u y m) = absurd (omega (arith, l, m))
+  fits-example t z l (bad-token u y m k) = absurd (bad-not-sentence k spelt)
+  fits-example t z l (wrong-syntax u y m s p) = let e = verdict-one g y z s spelt p parses in never (cc)
+  fits-example t z l (no-room u y m s p) = let e = verdict-one g y z s spelt p parses in never (cc)
+  fits-example {b = b} t z l (stored {S = S} {w = w} f u y m s p a) =
+      let eS : S ≡ maxSlots = sized-one y z in
+      let ew : w ≡ exampleTokens = sentence-one s spelt in
+      let q : Stored reference maxSlots exampleTokens f = subst (λ (x : List Token). Stored reference maxSlots x f) ew (subst (λ (x : ℕ). Stored reference x w f) eS p) in
+      let e : f ≡ exampleTree = stored-one g q grown in
+      (rw e, subst (λ (x : Forest). Area maxSlots x b) e (subst (λ (x : ℕ). Area x f b) eS a))
+
+  written : {w' : List ℕ} {r : Reply} → preparing.Writes (zeros tablesSize) reference r w' → Tables reference w'
+  written (preparing.wrong-size n) = absurd (n (length-zeros tablesSize))
+  written (preparing.written l t) = t
+
+  -- whatever the call leaves, it has accepted the tokens, and the area is the tree's
+  pub example-parsed : {r : Reply} {b : List ℕ} → Parsed exampleBytes r b → (r ≡ Accepted (parseCounts 9)) × Area maxSlots exampleTree b
+  example-parsed h =
+      let n = length-zeros (areaSize maxSlots) in
+      let t = written (opened-fit reference-image g (h .prepares)) in
+      fits-example t (record { some = omega arith; few = omega arith; long = n }) (omega (arith, n, length-zeros (workAreas * areaSize maxSlots))) (opened-fit reference-image g (h .parses .opened))
+
+  -- ---- the text
+
+  pub example-prints : {r : Reply} {b : List ℕ} → Parsed exampleBytes r b → Prints exampleBytes exampleText
+  example-prints {b = b} h =
+      let q = example-parsed h in
+      let k : Parsed exampleBytes (Accepted (parseCounts 9)) b = rw (q .0) at h in
+      let p : Prints exampleBytes (acceptedText exampleTree) = accepted exampleTree (omega arith) k (q .1) refl in
+      rw example at p
+
+  -- of the 15 bytes the program prints the ten lines
+  pub example-printed : {t : List ℕ} → Prints exampleBytes t → t ≡ exampleText
+  example-printed (too-long l) = absurd (omega arith)
+  example-printed (refused l h) = prints-one (refused l h) (example-prints h)
+  example-printed (accepted f l h a o) = prints-one (accepted f l h a o) (example-prints h)

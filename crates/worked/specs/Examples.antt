@@ -5,7 +5,8 @@ use mathlib.Core.Bool.{true}
 use mathlib.Core.Option.{some}
 use mathlib.Core.List.{List, [], _∷_}
 use lib.ListN.{getD}
-use lib.Dec.{eqb}
+use lib.Dec.{eqb, leb}
+use borrow.Author.Tests.{leb-true}
 use native.Mathlib.Omega.{arith}
 use Rattle.base.specs.Choose.{choose}
 use Rattle.base.specs.Blocks.{zeros}
@@ -277,8 +278,8 @@ pub run-says : (fuel S : ℕ) (ks : List ℕ) (v : Verdict) → run fuel S (6 �
 unfolding reference
 run-says fuel S ks v e w q = run-right fuel S (6 ∷ []) w 1 0 v (rw q e)
 
-parse-says : (fuel S : ℕ) (ks : List ℕ) (v : Verdict) → 1 ≤ S → S ≤ maxSlots → spoken ks ≡ true → run fuel S (6 ∷ []) ks 1 0 ≡ some v → Says (parse S ks v)
-parse-says fuel S ks v l m k e = (given S ks l m k, run-says fuel S ks v e, λ x. ends x v (run-says fuel S ks v e (x .sentence) (x .sentence-kinds)))
+parse-says : (fuel S : ℕ) (ks : List ℕ) (v : Verdict) → leb 1 S ≡ true → leb S maxSlots ≡ true → spoken ks ≡ true → run fuel S (6 ∷ []) ks 1 0 ≡ some v → Says (parse S ks v)
+parse-says fuel S ks v l m k e = (given S ks (leb-true 1 S l) (leb-true S maxSlots m) k, run-says fuel S ks v e, λ x. ends x v (run-says fuel S ks v e (x .sentence) (x .sentence-kinds)))
 
 -- the trees that parse leaves of U and V
 abbrev pub treeU : List Cell
@@ -317,13 +318,13 @@ examples-hold =
     (Each.cons (point-says 8 9 3 255 (omega arith) (omega arith) (omega arith) (omega arith) (omega arith) at-8-9-3)
     (Each.cons (point-says 8 10 2 0 (omega arith) (omega arith) (omega arith) (omega arith) (omega arith) at-8-10-2)
     (Each.cons empty-tree
-    (Each.cons (parse-says 20 1000 _ _ (omega arith) (omega arith) refl refl)
-    (Each.cons (parse-says 20 9 _ _ (omega arith) (omega arith) refl refl)
-    (Each.cons (parse-says 20 8 _ _ (omega arith) (omega arith) refl refl)
-    (Each.cons (parse-says 20 9 _ _ (omega arith) (omega arith) refl refl)
-    (Each.cons (parse-says 20 8 _ _ (omega arith) (omega arith) refl refl)
-    (Each.cons (parse-says 20 1000 _ _ (omega arith) (omega arith) refl refl)
-    (Each.cons (parse-says 40 1000 _ _ (omega arith) (omega arith) refl refl)
+    (Each.cons (parse-says 20 _ _ _ refl refl refl refl)
+    (Each.cons (parse-says 20 _ _ _ refl refl refl refl)
+    (Each.cons (parse-says 20 _ _ _ refl refl refl refl)
+    (Each.cons (parse-says 20 _ _ _ refl refl refl refl)
+    (Each.cons (parse-says 20 _ _ _ refl refl refl refl)
+    (Each.cons (parse-says 20 _ _ _ refl refl refl refl)
+    (Each.cons (parse-says 40 _ _ _ refl refl refl refl)
     (Each.cons (row-says exampleG treeU (λ w u. refl) (omega arith) (omega arith) refl)
     (Each.cons exampleH-holds
     (Each.cons (row-says exampleI treeV (λ w u. refl) (omega arith) (omega arith) refl)

@@ -9,17 +9,16 @@ use Rattle.base.specs.Bytes.{leBytes}
 use Rattle.base.specs.Blocks.{zeros, byte-zeros, length-zeros}
 use Rattle.grammar.specs.Each.{Each}
 use Rattle.grammar.specs.Grammar.{Grammar, TerminalOf}
-use Rattle.grammar.specs.Prediction.{Prepared}
-use Rattle.grammar.specs.Forest.{Token, Forest, size, yield}
+use Rattle.grammar.specs.Forest.{Token, kinds, Forest, size, yield}
 use Rattle.grammar.specs.Image.{bad-head}
 use Rattle.grammar.specs.Images.{bad-one}
 use Rattle.grammar.specs.Reference.{reference, referenceImage, reference-image}
-use Rattle.tables.specs.Tables.{tablesSize, Tables}
+use Rattle.tables.specs.Tables.{tablesSize}
 use Rattle.trees.specs.Area.{areaSize, top, Area, Valid}
 use Rattle.trees.specs.Nodes.{preorder}
-use Rattle.plain.specs.Plain.{Verdict, accepted, syntax, noRoom, Parses}
+use Rattle.plain.specs.Plain.{accepted, syntax}
 use Rattle.plain.specs.One.{runs-one}
-use Rattle.plain.specs.Tokens.{Tagged, tokenBytes, Sentence, bad-not-sentence}
+use Rattle.plain.specs.Tokens.{Tagged, tokenBytes, Sentence}
 use Rattle.plain.specs.Machine.{marked}
 use Rattle.edits.specs.Keeping.{edited}
 use Rattle.sentences.specs.Forming.{editOf}
@@ -27,20 +26,20 @@ use Rattle.replies.specs.Reply.{noCounts, countsOf}
 use Rattle.replies.specs.declared.Counts.{Counts}
 use Rattle.replies.specs.declared.Reply.{Reply}
 use Rattle.replies.specs.declared.Reason.{Reason}
-use Rattle.replies.specs.declared.Reason.the-variants.{BadGrammar, Syntax, NoRoom, ShortOutput}
+use Rattle.replies.specs.declared.Reason.the-variants.{BadGrammar, Syntax, ShortOutput}
 use Rattle.replies.specs.declared.Reply.the-variants.{Accepted, Refused}
 use Rattle.kindlesap.specs.Judged.{Opened, fit, bad-image, good-image, opened-fit}
 use Rattle.kindlesap.specs.Prepare.{Writes, wrong-size, written, Prepares}
-use Rattle.kindlesap.specs.Parse.{workAreas, Sized, parseCounts, Stored, Fits, wrong-tables, wrong-area, short-work, bad-token, wrong-syntax, no-room, stored, ParseOutcome, stored-parses, verdict-one}
+use Rattle.kindlesap.specs.Parse.{workAreas, parseCounts, Stored, ParseOutcome, stored-parses, parse-one}
 use Rattle.kindlesap.specs.ReadBack.{readCounts, needed, short-output, returned, ReadOutcome, trees-one, read-one}
 use Rattle.kindlesap.specs.Edit as calls
 use Rattle.kindlesap.specs.Edited.{edit-renews}
 use Rattle.worked.specs.Ready.{below, reference-prepared, cells}
-use Rattle.worked.specs.Entries.{cell, referenceTables, reference-tables}
+use Rattle.worked.specs.Entries.{cell, referenceTables}
 use Rattle.worked.specs.Run.{body, lit, leaf, grown, inner, turn, run}
 use Rattle.worked.specs.Match.{orElse, seek, starts, stands, was, full, void, source, matches, slotOf, slotsOf, held}
 use Rattle.worked.specs.Alter.{grows, among, filled, gives, givenUp}
-use Rattle.worked.specs.Calls.{spoken}
+use Rattle.worked.specs.Calls.{Given, spoken, ends}
 use Rattle.worked.specs.Edits.{Cell, kept, made, cellsOf, Row, Setting, Remade, spelled, noded, planted, facts, valid, old-length}
 use Rattle.worked.specs.Examples.{edit, Says, kindsU, kindsV, treeU, exampleH, row-says, exampleH-holds, exampleJ-holds, run-says}
 
@@ -78,24 +77,6 @@ prepare-not-one-reply r f =
 
 -- ---- parse
 
--- what a verdict of the plain parse is as a reply
-abbrev pub replyOf : Verdict → Reply
-replyOf (accepted n) = Accepted (parseCounts n)
-replyOf (syntax i e) = Refused (Syntax i e)
-replyOf noRoom = Refused NoRoom
-
--- with the right tables, an area of S slots, work enough and a sentence, the plain parse decides the reply
-module _ {G : Grammar} (g : Prepared G) {tables tokens tree : List ℕ} {room S : ℕ} {w : List Token} {v : Verdict} (t : Tables G tables) (z : Sized S tree) (l : workAreas * length tree ≤ room)
-    (s : Sentence (G .t) tokens w) (p : Parses G S w v) where
-  decides : {r : Reply} {tree' : List ℕ} → Fits tables tokens room tree G r tree' → r ≡ replyOf v
-  decides (wrong-tables n) = absurd (n t)
-  decides (wrong-area u n) = absurd (n S z)
-  decides (short-work u y m) = absurd (omega (arith, l, m))
-  decides (bad-token u y m b) = absurd (bad-not-sentence b s)
-  decides (wrong-syntax u y m s' q) = ap replyOf (verdict-one g y z s' s q p)
-  decides (no-room u y m s' q) = ap replyOf (verdict-one g y z s' s q p)
-  decides (stored f u y m s' q a) = ap replyOf (verdict-one g y z s' s (stored-parses g (y .some) q) p)
-
 -- an area of one slot, and work for it
 abbrev pub oneSlot : List ℕ
 oneSlot = zeros (areaSize 1)
@@ -103,18 +84,25 @@ oneSlot = zeros (areaSize 1)
 abbrev pub itsWork : List ℕ
 itsWork = zeros (workAreas * areaSize 1)
 
-decided : {tokens : List ℕ} {w : List Token} {v : Verdict} {r : Reply} {tree' work' : List ℕ} → Sentence (reference .t) tokens w → Parses reference 1 w v
-    → ParseOutcome referenceImage referenceTables tokens oneSlot itsWork r tree' work' → r ≡ replyOf v
-decided s p h =
+abbrev oneCall : {tokens : List ℕ} {w : List Token} → Sentence (reference .t) tokens w → Given 1 (kinds w)
+oneCall {tokens} {w} s =
     let l = length-zeros (areaSize 1) in
-    let m = length-zeros (workAreas * areaSize 1) in
-    let z : Sized 1 oneSlot = record { some = omega arith; few = omega arith; long = l } in
-    decides reference-prepared reference-tables z (omega (arith, l, m)) s p (opened-reference (h .opened))
+    record {
+      sentence = w;
+      sentence-kinds = refl;
+      tokens = tokens;
+      spelt = s;
+      tree = oneSlot;
+      sized = record { some = omega arith; few = omega arith; long = l };
+      work = itsWork;
+      long = omega (arith, l, length-zeros (workAreas * areaSize 1));
+    }
 
 -- the empty sentence is accepted, with one node
 pub nothing-accepted : (tree' work' : List ℕ) (r : Reply) → ParseOutcome referenceImage referenceTables [] oneSlot itsWork r tree' work' → r ≡ Accepted (parseCounts 1)
 unfolding run turn leaf inner grown body lit marked cell cells zeros choose reference
-nothing-accepted tree' work' r h = decided (record { is = refl; kinds = Each.nil; tags = Each.nil }) (run-says 2 1 [] (accepted 1) refl [] refl) h
+nothing-accepted tree' work' r h =
+    parse-one h (ends (oneCall (record { is = refl; kinds = Each.nil; tags = Each.nil })) (accepted 1) (run-says 2 1 [] (accepted 1) refl [] refl) .outcome) .0
 
 -- a sentence may not begin with a semicolon, but with nothing or with allow
 abbrev pub semicolon : List ℕ
@@ -126,7 +114,8 @@ semicolon-refused tree' work' r h =
     let k : Token = record { kind = 5; tag = 0 } in
     let a : TerminalOf 5 5 = (omega arith, omega arith) in
     let b : Tagged k = omega arith in
-    decided (record { is = refl; kinds = Each.cons a Each.nil; tags = Each.cons b Each.nil }) (run-says 2 1 (5 ∷ []) (syntax 0 3) refl (k ∷ []) refl) h
+    let s : Sentence (reference .t) semicolon (k ∷ []) = record { is = refl; kinds = Each.cons a Each.nil; tags = Each.cons b Each.nil } in
+    parse-one h (ends (oneCall s) (syntax 0 3) (run-says 2 1 (5 ∷ []) (syntax 0 3) refl (k ∷ []) refl)) .0
 
 -- no program refuses everything
 pub parse-not-refused : (tree' work' : List ℕ) (x : Reason) → ParseOutcome referenceImage referenceTables [] oneSlot itsWork (Refused x) tree' work' → ⊥
