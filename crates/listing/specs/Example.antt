@@ -1,5 +1,4 @@
 -- Document 01's example of the program's text: the input `01 00000000 02 07000000 05 00000000`, its tree, and its ten lines, which the program prints and nothing else.
--- That replies 2 and 3 don't hold of the built-in grammar is supposed here, and proved in worked/specs/Ready.
 use Prim.Native.Nat.{ℕ, _*_, _≤_, _<_}
 use mathlib.Core.Path.{_≡_, refl, subst}
 use mathlib.Core.List.{List, [], _∷_, _++_}
@@ -9,7 +8,6 @@ use Rattle.base.specs.Bytes.{leBytes}
 use Rattle.base.specs.Blocks.{zeros, length-zeros}
 use Rattle.base.specs.Choose.{choose, never}
 use Rattle.grammar.specs.Each.{Each}
-use Rattle.grammar.specs.Prediction.{Prepared}
 use Rattle.grammar.specs.Forest.{Token, Forest, nil, leaf, node, Derives}
 use Rattle.grammar.specs.Reference.{reference, reference-image}
 use Rattle.tables.specs.Tables.{tablesSize, Tables}
@@ -21,6 +19,7 @@ use Rattle.replies.specs.declared.Reply.the-variants.{Accepted}
 use Rattle.kindlesap.specs.Judged.{opened-fit}
 use Rattle.kindlesap.specs.Prepare as preparing
 use Rattle.kindlesap.specs.Parse.{workAreas, Sized, parseCounts, Stored, Fits, wrong-tables, wrong-area, short-work, bad-token, wrong-syntax, no-room, stored, sized-one, stored-one, stored-parses, verdict-one}
+use Rattle.worked.specs.Ready.{reference-prepared}
 use Rattle.listing.specs.Text.{digitsOf, field, nodeRows, firstRow, acceptedText, Parsed, Prints, too-long, refused, accepted}
 use Rattle.listing.specs.Printing.{prints-one}
 
@@ -85,47 +84,46 @@ grown =
 
 -- ---- parse stores it
 
-module _ (g : Prepared reference) where
-  parses : plain.Parses reference maxSlots exampleTokens (plain.accepted 9)
-  parses = stored-parses g (omega arith) grown
+parses : plain.Parses reference maxSlots exampleTokens (plain.accepted 9)
+parses = stored-parses reference-prepared (omega arith) grown
 
-  fits-example : {tables tree b : List ℕ} {room : ℕ} {r : Reply} → Tables reference tables → Sized maxSlots tree → workAreas * length tree ≤ room → Fits tables exampleBytes room tree reference r b
-      → (r ≡ Accepted (parseCounts 9)) × Area maxSlots exampleTree b
-  fits-example t z l (wrong-tables n) = absurd (n t)
-  fits-example t z l (wrong-area u n) = absurd (n maxSlots z)
-  fits-example t z l (short-work u y m) = absurd (omega (arith, l, m))
-  fits-example t z l (bad-token u y m k) = absurd (bad-not-sentence k spelt)
-  fits-example t z l (wrong-syntax u y m s p) = let e = verdict-one g y z s spelt p parses in never (cc)
-  fits-example t z l (no-room u y m s p) = let e = verdict-one g y z s spelt p parses in never (cc)
-  fits-example {b = b} t z l (stored {S = S} {w = w} f u y m s p a) =
-      let eS : S ≡ maxSlots = sized-one y z in
-      let ew : w ≡ exampleTokens = sentence-one s spelt in
-      let q : Stored reference maxSlots exampleTokens f = subst (λ (x : List Token). Stored reference maxSlots x f) ew (subst (λ (x : ℕ). Stored reference x w f) eS p) in
-      let e : f ≡ exampleTree = stored-one g q grown in
-      (rw e, subst (λ (x : Forest). Area maxSlots x b) e (subst (λ (x : ℕ). Area x f b) eS a))
+fits-example : {tables tree b : List ℕ} {room : ℕ} {r : Reply} → Tables reference tables → Sized maxSlots tree → workAreas * length tree ≤ room → Fits tables exampleBytes room tree reference r b
+    → (r ≡ Accepted (parseCounts 9)) × Area maxSlots exampleTree b
+fits-example t z l (wrong-tables n) = absurd (n t)
+fits-example t z l (wrong-area u n) = absurd (n maxSlots z)
+fits-example t z l (short-work u y m) = absurd (omega (arith, l, m))
+fits-example t z l (bad-token u y m k) = absurd (bad-not-sentence k spelt)
+fits-example t z l (wrong-syntax u y m s p) = let e = verdict-one reference-prepared y z s spelt p parses in never (cc)
+fits-example t z l (no-room u y m s p) = let e = verdict-one reference-prepared y z s spelt p parses in never (cc)
+fits-example {b = b} t z l (stored {S = S} {w = w} f u y m s p a) =
+    let eS : S ≡ maxSlots = sized-one y z in
+    let ew : w ≡ exampleTokens = sentence-one s spelt in
+    let q : Stored reference maxSlots exampleTokens f = subst (λ (x : List Token). Stored reference maxSlots x f) ew (subst (λ (x : ℕ). Stored reference x w f) eS p) in
+    let e : f ≡ exampleTree = stored-one reference-prepared q grown in
+    (rw e, subst (λ (x : Forest). Area maxSlots x b) e (subst (λ (x : ℕ). Area x f b) eS a))
 
-  written : {w' : List ℕ} {r : Reply} → preparing.Writes (zeros tablesSize) reference r w' → Tables reference w'
-  written (preparing.wrong-size n) = absurd (n (length-zeros tablesSize))
-  written (preparing.written l t) = t
+written : {w' : List ℕ} {r : Reply} → preparing.Writes (zeros tablesSize) reference r w' → Tables reference w'
+written (preparing.wrong-size n) = absurd (n (length-zeros tablesSize))
+written (preparing.written l t) = t
 
-  -- whatever the call leaves, it has accepted the tokens, and the area is the tree's
-  pub example-parsed : {r : Reply} {b : List ℕ} → Parsed exampleBytes r b → (r ≡ Accepted (parseCounts 9)) × Area maxSlots exampleTree b
-  example-parsed h =
-      let n = length-zeros (areaSize maxSlots) in
-      let t = written (opened-fit reference-image g (h .prepares)) in
-      fits-example t (record { some = omega arith; few = omega arith; long = n }) (omega (arith, n, length-zeros (workAreas * areaSize maxSlots))) (opened-fit reference-image g (h .parses .opened))
+-- whatever the call leaves, it has accepted the tokens, and the area is the tree's
+pub example-parsed : {r : Reply} {b : List ℕ} → Parsed exampleBytes r b → (r ≡ Accepted (parseCounts 9)) × Area maxSlots exampleTree b
+example-parsed h =
+    let n = length-zeros (areaSize maxSlots) in
+    let t = written (opened-fit reference-image reference-prepared (h .prepares)) in
+    fits-example t (record { some = omega arith; few = omega arith; long = n }) (omega (arith, n, length-zeros (workAreas * areaSize maxSlots))) (opened-fit reference-image reference-prepared (h .parses .opened))
 
-  -- ---- the text
+-- ---- the text
 
-  pub example-prints : {r : Reply} {b : List ℕ} → Parsed exampleBytes r b → Prints exampleBytes exampleText
-  example-prints {b = b} h =
-      let q = example-parsed h in
-      let k : Parsed exampleBytes (Accepted (parseCounts 9)) b = rw (q .0) at h in
-      let p : Prints exampleBytes (acceptedText exampleTree) = accepted exampleTree (omega arith) k (q .1) refl in
-      rw example at p
+pub example-prints : {r : Reply} {b : List ℕ} → Parsed exampleBytes r b → Prints exampleBytes exampleText
+example-prints {b = b} h =
+    let q = example-parsed h in
+    let k : Parsed exampleBytes (Accepted (parseCounts 9)) b = rw (q .0) at h in
+    let p : Prints exampleBytes (acceptedText exampleTree) = accepted exampleTree (omega arith) k (q .1) refl in
+    rw example at p
 
-  -- of the 15 bytes the program prints the ten lines
-  pub example-printed : {t : List ℕ} → Prints exampleBytes t → t ≡ exampleText
-  example-printed (too-long l) = absurd (omega arith)
-  example-printed (refused l h) = prints-one (refused l h) (example-prints h)
-  example-printed (accepted f l h a o) = prints-one (accepted f l h a o) (example-prints h)
+-- of the 15 bytes the program prints the ten lines
+pub example-printed : {t : List ℕ} → Prints exampleBytes t → t ≡ exampleText
+example-printed (too-long l) = absurd (omega arith)
+example-printed (refused l h) = prints-one (refused l h) (example-prints h)
+example-printed (accepted f l h a o) = prints-one (accepted f l h a o) (example-prints h)
