@@ -1,5 +1,6 @@
 // An edit behind replies 1 to 4, of an area of the right length: replies 5 to 10, or the new tree.
 use altering::Alteration;
+use grammar::Head;
 use plain::Tokens;
 use replies::Counts;
 use replies::Reason;
@@ -10,13 +11,15 @@ ghost use Prim.Native.Nat.{_-_, _*_, _≤_, _<_};
 ghost use lib.ListN.{length};
 ghost use Rattle.base.specs.Tells.{Tells};
 ghost use Rattle.grammar.specs.Prediction.{Prepared};
-ghost use Rattle.grammar.specs.Rows.{symbolSpace, grammarIn};
+ghost use Rattle.grammar.specs.Rows.{symbolSpace};
 ghost use Rattle.tables.specs.Tables.{Tables};
-ghost use Rattle.trees.specs.Area.{maxSlots, areaSize, Valid};
+ghost use Rattle.trees.specs.Area.{maxSlots, Valid};
 ghost use Rattle.plain.specs.Outcome.{Counted};
 ghost use Rattle.replies.specs.declared.Reply.the-variants.{Accepted};
 ghost use Rattle.altering.specs.Treed.{workAreas, Treed};
-ghost use Rattle.editing.specs.Edits.{editCounts, Edits};
+ghost use Rattle.order.specs.Checks.{headed, Sized};
+ghost use Rattle.editing.specs.Edits.{Edits};
+ghost use Rattle.editing.specs.Editing.{editCounts};
 
 pub const WORK_AREAS: usize = 3;
 
@@ -44,14 +47,11 @@ fn edit_range(
     m: usize,
     tables: &[u8],
     rows: &[u8],
-    t: usize,
-    n: usize,
-    start: usize,
-    count: usize,
+    head: Head,
     work: &mut [u8],
 ) -> Reply
-    requires { ⌜ Prepared (grammarIn (now rows) t n start count) × Tables (grammarIn (now rows) t n start count) (now tables) × Treed (grammarIn (now rows) t n start count) slots (now tree) (now work) o × Counted t (now tokens) m × (workAreas * length (now tree) ≤ length (now work)) ⌝ }
-    ensures { λ r. ⌜ Edits (now (tables .entry)) (now (tokens .entry)) place removed (length (now (work .entry))) (now (tree .entry)) (grammarIn (now (rows .entry)) t n start count) r (now (tree .exit)) ⌝ }
+    requires { ⌜ Prepared (headed (now rows) head) × Tables (headed (now rows) head) (now tables) × Treed (headed (now rows) head) slots (now tree) (now work) o × Counted (head .t) (now tokens) m × (workAreas * length (now tree) ≤ length (now work)) ⌝ }
+    ensures { λ r. ⌜ Edits (now (tables .entry)) (now (tokens .entry)) place removed (length (now (work .entry))) (now (tree .entry)) (headed (now (rows .entry)) head) r (now (tree .exit)) ⌝ }
 {
     let old = base::get16(tree, trees::TOKENS_PLACE);
     if old < place as usize + removed as usize {
@@ -59,10 +59,10 @@ fn edit_range(
     }
     let r = altering::alter(
         rows,
-        t,
-        n,
-        start,
-        count,
+        head.t,
+        head.n,
+        head.start,
+        head.count,
         tables,
         slots,
         o,
@@ -93,16 +93,13 @@ fn edit_tokens(
     tokens: &[u8],
     tables: &[u8],
     rows: &[u8],
-    t: usize,
-    n: usize,
-    start: usize,
-    count: usize,
+    head: Head,
     work: &mut [u8],
 ) -> Reply
-    requires { ⌜ Prepared (grammarIn (now rows) t n start count) × Tables (grammarIn (now rows) t n start count) (now tables) × Treed (grammarIn (now rows) t n start count) slots (now tree) (now work) o × (workAreas * length (now tree) ≤ length (now work)) ⌝ }
-    ensures { λ r. ⌜ Edits (now (tables .entry)) (now (tokens .entry)) place removed (length (now (work .entry))) (now (tree .entry)) (grammarIn (now (rows .entry)) t n start count) r (now (tree .exit)) ⌝ }
+    requires { ⌜ Prepared (headed (now rows) head) × Tables (headed (now rows) head) (now tables) × Treed (headed (now rows) head) slots (now tree) (now work) o × (workAreas * length (now tree) ≤ length (now work)) ⌝ }
+    ensures { λ r. ⌜ Edits (now (tables .entry)) (now (tokens .entry)) place removed (length (now (work .entry))) (now (tree .entry)) (headed (now (rows .entry)) head) r (now (tree .exit)) ⌝ }
 {
-    match plain::read_tokens(tokens, t) {
+    match plain::read_tokens(tokens, head.t) {
         Tokens::Good(m) => edit_range(
             tree,
             slots,
@@ -113,10 +110,7 @@ fn edit_tokens(
             m,
             tables,
             rows,
-            t,
-            n,
-            start,
-            count,
+            head,
             work,
         ),
         Tokens::Bad(record) => Reply::Refused(Reason::BadToken(record as u64)),
@@ -132,16 +126,22 @@ fn edit_walked(
     tokens: &[u8],
     tables: &[u8],
     rows: &[u8],
-    t: usize,
-    n: usize,
-    start: usize,
-    count: usize,
+    head: Head,
     work: &mut [u8],
 ) -> Reply
-    requires { ⌜ Prepared (grammarIn (now rows) t n start count) × Tables (grammarIn (now rows) t n start count) (now tables) × (1 ≤ slots) × (slots ≤ maxSlots) × (length (now tree) ≡ areaSize slots) × (workAreas * length (now tree) ≤ length (now work)) ⌝ }
-    ensures { λ r. ⌜ Edits (now (tables .entry)) (now (tokens .entry)) place removed (length (now (work .entry))) (now (tree .entry)) (grammarIn (now (rows .entry)) t n start count) r (now (tree .exit)) ⌝ }
+    requires { ⌜ Prepared (headed (now rows) head) × Tables (headed (now rows) head) (now tables) × Sized slots (now tree) × (workAreas * length (now tree) ≤ length (now work)) ⌝ }
+    ensures { λ r. ⌜ Edits (now (tables .entry)) (now (tokens .entry)) place removed (length (now (work .entry))) (now (tree .entry)) (headed (now (rows .entry)) head) r (now (tree .exit)) ⌝ }
 {
-    match walks::read_tree(tree, slots, rows, t, n, start, count, work) {
+    match walks::read_tree(
+        tree,
+        slots,
+        rows,
+        head.t,
+        head.n,
+        head.start,
+        head.count,
+        work,
+    ) {
         Walked::Tree(o) => edit_tokens(
             tree,
             slots,
@@ -151,10 +151,7 @@ fn edit_walked(
             tokens,
             tables,
             rows,
-            t,
-            n,
-            start,
-            count,
+            head,
             work,
         ),
         Walked::NoTree => Reply::Refused(Reason::WrongTree),
@@ -162,20 +159,21 @@ fn edit_walked(
 }
 
 // Whether an area of so many slots is a valid tree, found without a work area.
-fn is_tree(
-    tree: &[u8],
-    slots: usize,
-    rows: &[u8],
-    t: usize,
-    n: usize,
-    start: usize,
-    count: usize,
-) -> bool
-    requires { ⌜ (1 ≤ slots) × (slots ≤ maxSlots) × (length (now tree) ≡ areaSize slots) × (start < symbolSpace) ⌝ }
-    ensures { λ r. ⌜ Tells (Valid (grammarIn (now (rows .entry)) t n start count) slots (now (tree .entry))) r ⌝ }
+fn is_tree(tree: &[u8], slots: usize, rows: &[u8], head: Head) -> bool
+    requires { ⌜ Sized slots (now tree) × (head .start < symbolSpace) ⌝ }
+    ensures { λ r. ⌜ Tells (Valid (headed (now (rows .entry)) head) slots (now (tree .entry))) r ⌝ }
 {
     let mut work = [0u8; walks::WALK_SIZE];
-    match walks::read_tree(tree, slots, rows, t, n, start, count, &mut work) {
+    match walks::read_tree(
+        tree,
+        slots,
+        rows,
+        head.t,
+        head.n,
+        head.start,
+        head.count,
+        &mut work,
+    ) {
         Walked::Tree(_) => true,
         Walked::NoTree => false,
     }
@@ -190,18 +188,15 @@ pub fn edit_tree(
     tokens: &[u8],
     tables: &[u8],
     rows: &[u8],
-    t: usize,
-    n: usize,
-    start: usize,
-    count: usize,
+    head: Head,
     work: &mut [u8],
 ) -> Reply
-    requires { ⌜ Prepared (grammarIn (now rows) t n start count) × Tables (grammarIn (now rows) t n start count) (now tables) × (1 ≤ slots) × (slots ≤ maxSlots) × (length (now tree) ≡ areaSize slots) ⌝ }
-    ensures { λ r. ⌜ Edits (now (tables .entry)) (now (tokens .entry)) place removed (length (now (work .entry))) (now (tree .entry)) (grammarIn (now (rows .entry)) t n start count) r (now (tree .exit)) ⌝ }
+    requires { ⌜ Prepared (headed (now rows) head) × Tables (headed (now rows) head) (now tables) × Sized slots (now tree) ⌝ }
+    ensures { λ r. ⌜ Edits (now (tables .entry)) (now (tokens .entry)) place removed (length (now (work .entry))) (now (tree .entry)) (headed (now (rows .entry)) head) r (now (tree .exit)) ⌝ }
 {
     let need = WORK_AREAS * tree.len();
     if work.len() < need {
-        if is_tree(tree, slots, rows, t, n, start, count) {
+        if is_tree(tree, slots, rows, head) {
             return Reply::Refused(Reason::ShortWork(need as u64));
         }
         return Reply::Refused(Reason::WrongTree);
@@ -214,10 +209,7 @@ pub fn edit_tree(
         tokens,
         tables,
         rows,
-        t,
-        n,
-        start,
-        count,
+        head,
         work,
     )
 }

@@ -17,15 +17,17 @@ use Rattle.plain.specs.Plain.{Verdict, accepted, syntax, noRoom, Parses}
 use Rattle.plain.specs.One.{runs-one}
 use Rattle.plain.specs.Exactly.{Fitting, accepted-exactly}
 use Rattle.plain.specs.Viable.{Longest, place-longest}
-use Rattle.plain.specs.Tokens.{Sentence, bad-not-sentence, sentence-one}
+use Rattle.plain.specs.Tokens.{Sentence}
 use Rattle.replies.specs.Reply.{noCounts, numberOf, placeOf, expectedOf, countsOf}
 use Rattle.replies.specs.declared.Counts.{Counts}
 use Rattle.replies.specs.declared.Reply.{Reply}
 use Rattle.replies.specs.declared.Reason.the-variants as reasons
 use Rattle.replies.specs.declared.Reply.the-variants.{Accepted, Refused}
-use Rattle.kindlesap.specs.Judged.{Judged, useless, conflict, fit, Opened, bad-image, good-image, opened-fit}
-use Rattle.kindlesap.specs.Prepare.{Writes, wrong-size, written, Prepares}
-use Rattle.kindlesap.specs.Parse.{workAreas, Sized, sized-one, parseCounts, Fits, wrong-tables, wrong-area, short-work, bad-token, wrong-syntax, no-room, stored, ParseOutcome, stored-parses}
+use Rattle.order.specs.Order.{Outcome, Tried, refused, passed, Done, accepted as done, require-single, passes, has-passed, is-accepted}
+use Rattle.order.specs.Checks.{wrong-syntax, no-room, parsed}
+use Rattle.order.specs.Single.{area-single, sentence-single, given-fit, given-accepted}
+use Rattle.kindlesap.specs.Prepare.{writes, Prepares}
+use Rattle.kindlesap.specs.Parse.{workAreas, Sized, parseCounts, Storage, fits, Fits, ParseOutcome, stored-parses}
 
 -- ---- prepare
 
@@ -36,34 +38,27 @@ pub record Good (image : List ℕ) : Type 0 where
   pub prepared : Prepared grammar
 
 accepted-good : {image w w' : List ℕ} {r : Reply} → Prepares image w r w' → r ≡ Accepted noCounts → Good image
-accepted-good (bad-image b) e = never (cc)
-accepted-good {image} {w} (good-image {G = G} i j) e = go j e
-  where
-    go : {r : Reply} {w' : List ℕ} → Judged G (Writes w G) w r w' → r ≡ Accepted noCounts → Good image
-    go (useless h) e = never (cc)
-    go (conflict n h) e = never (cc)
-    go (fit p q) e = record { grammar = G; reads = i; prepared = p }
+accepted-good {image} {w} {w'} {r} h e = let a = given-accepted image (writes w) w r w' e h in record { grammar = a .0; reads = a .1; prepared = a .2 }
 
 module _ {image w w' : List ℕ} {r : Reply} where
+  -- behind replies 1 to 3
+  writes-fit : {G : Grammar} → Image image G → Prepared G → Prepares image w r w' → Outcome (writes w G) w r w'
+  writes-fit i g h = given-fit image (writes w) w r w' i g h
+
   -- "A grammar is prepared exactly when it is well formed, has no useless nonterminal and is LL(1)"
   pub prepared-exactly : length w ≡ tablesSize → Prepares image w r w' → (r ≡ Accepted noCounts) ↔ Good image
-  prepared-exactly l h = (accepted-good h, λ g. go (opened-fit (g .reads) (g .prepared) h))
+  prepared-exactly l h = (accepted-good h, λ g. go (passes require-single l (writes-fit (g .reads) (g .prepared) h)))
     where
-      go : {G : Grammar} {r : Reply} {w' : List ℕ} → Writes w G r w' → r ≡ Accepted noCounts
-      go (wrong-size n) = absurd (n l)
-      go (written m t) = refl
+      go : {G : Grammar} {r : Reply} {w' : List ℕ} → Done (λ c t. (c ≡ noCounts) × Tables G t) r w' → r ≡ Accepted noCounts
+      go (done p) = ap Accepted (p .0)
 
   -- "its tables are the ones defined": what reply 4 of parse and edit calls the grammar's tables is what prepare writes
   pub prepared-tables : {G : Grammar} → Prepares image w r w' → r ≡ Accepted noCounts → Image image G → (tables : List ℕ) → Tables G tables ↔ (tables ≡ w')
   prepared-tables {G} h e i tables =
       let g = accepted-good h e in
       let p : Prepared G = subst Prepared (image-one (g .reads) i) (g .prepared) in
-      let t : Tables G w' = go (opened-fit i p h) e in
+      let t : Tables G w' = is-accepted e (has-passed e (writes-fit i p h) .2) .1 in
       (λ u. tables-one p u t, λ q. rw q t)
-    where
-      go : {r : Reply} {w' : List ℕ} → Writes w G r w' → r ≡ Accepted noCounts → Tables G w'
-      go (wrong-size n) e = never (cc)
-      go (written m t) e = t
 
 -- ---- parse: the plain parse decides
 
@@ -108,21 +103,31 @@ answered-place {G} {S} {w} {r} g a i e q =
     let b : Answers (syntax i e) r = rw q Answers.nine in
     place-longest g i e (answered-exactly g a (syntax i e) .1 b)
 
+-- where the plain parse comes, a call's reply is its verdict
+pub parsed-answered : {G : Grammar} {S : ℕ} {w : List Token} {B : Type 0} {P : Counts → B → Type 0} {before after : B} {r : Reply}
+    → ((n : ℕ) (c : Counts) (v : B) → Parses G S w (accepted n) → P c v → c .total ≡ n) → Tried (parsed G S w) (λ _. Done P) before r after → Answered G S w r
+parsed-answered t (refused (wrong-syntax {i = i} {e = e} p)) = record { verdict = syntax i e; parses = p; answers = Answers.nine }
+parsed-answered t (refused (no-room p)) = record { verdict = noRoom; parses = p; answers = Answers.ten }
+parsed-answered t (passed {x = n} p (done {c = c} {after = v} q)) = record { verdict = accepted n; parses = p; answers = Answers.yes (t n c v p q) }
+
 module _ {G : Grammar} (g : Prepared G) {S : ℕ} {tables : List ℕ} (t : Tables G tables) {w : List Token} where
-  pub fits-answered : {room : ℕ} {b area area' : List ℕ} {r : Reply} → Sized S area → workAreas * length area ≤ room → Sentence (G .t) b w → Fits tables b room area G r area' → Answered G S w r
-  fits-answered z l k (wrong-tables n) = absurd (n t)
-  fits-answered z l k (wrong-area t' n) = absurd (n S z)
-  fits-answered z l k (short-work t' z' l') = absurd (omega (arith, l, l'))
-  fits-answered z l k (bad-token t' z' l' b) = absurd (bad-not-sentence b k)
-  fits-answered z l k (wrong-syntax {i = j} {e = e} t' z' l' k' p) = record { verdict = syntax j e; parses = rw (sized-one z' z, sentence-one k' k) at p; answers = Answers.nine }
-  fits-answered z l k (no-room t' z' l' k' p) = record { verdict = noRoom; parses = rw (sized-one z' z, sentence-one k' k) at p; answers = Answers.ten }
-  fits-answered z l k (stored f t' z' l' k' p a) =
-      record { verdict = accepted (size f); parses = rw (sized-one z' z, sentence-one k' k) at (stored-parses g (z' .some) p); answers = Answers.yes refl }
+  behind : {room : ℕ} {b area area' : List ℕ} {r : Reply} → Sized S area → workAreas * length area ≤ room → Sentence (G .t) b w → Fits tables b room area G r area'
+      → Tried (parsed G S w) (λ _. Done (Storage G S w)) area r area'
+  behind z l k h = passes sentence-single k (passes require-single l (passes area-single z (passes require-single t h)))
+
+  pub fits-answered : (room : ℕ) (b area area' : List ℕ) (r : Reply) → Sized S area → workAreas * length area ≤ room → Sentence (G .t) b w → Fits tables b room area G r area' → Answered G S w r
+  fits-answered room b area area' r z l k h = parsed-answered (λ n c v p q. let e = runs-one g (stored-parses g (z .some) (q .stored)) p in ap (λ (x : Counts). x .total) (q .counts) ∙ size-of e) (behind z l k h)
+    where
+      size-of : {m n : ℕ} → accepted m ≡ accepted n → m ≡ n
+      size-of e = cc
 
   module _ {image tokens tree work tree' work' : List ℕ} {r : Reply} (i : Image image G) (z : Sized S tree) (l : workAreas * length tree ≤ length work) (s : Sentence (G .t) tokens w)
       (h : ParseOutcome image tables tokens tree work r tree' work') where
+    fitted : Fits tables tokens (length work) tree G r tree'
+    fitted = given-fit image (fits tables tokens (length work) tree) tree r tree' i g (h .opened)
+
     answered : Answered G S w r
-    answered = fits-answered z l s (opened-fit i g (h .opened))
+    answered = fits-answered (length work) tokens tree tree' r z l s fitted
 
     -- parse's reply, place, expected set and total are those of the plain parse
     pub parse-plain : (u : Verdict) → Parses G S w u ↔ Answers u r
@@ -132,11 +137,13 @@ module _ {G : Grammar} (g : Prepared G) {S : ℕ} {tables : List ℕ} (t : Table
     pub parse-exactly : (n : ℕ) → (r ≡ Accepted (parseCounts n)) ↔ Fitting G S w n
     parse-exactly n = (
       λ e. accepted-exactly S w n (z .some) .0 (parse-plain (accepted n) .1 (rw e (Answers.yes refl))),
-      λ f. go (opened-fit i g (h .opened)) (parse-plain (accepted n) .0 (accepted-exactly S w n (z .some) .1 f)),
+      λ f. go (behind z l s fitted) (parse-plain (accepted n) .0 (accepted-exactly S w n (z .some) .1 f)),
     )
       where
-        go : {r : Reply} {v : List ℕ} → Fits tables tokens (length work) tree G r v → Answers (accepted n) r → r ≡ Accepted (parseCounts n)
-        go (stored f t' z' l' k' p a) (Answers.yes e) = rw e
+        go : {r : Reply} {v : List ℕ} → Tried (parsed G S w) (λ _. Done (Storage G S w)) tree r v → Answers (accepted n) r → r ≡ Accepted (parseCounts n)
+        go (passed p (done {c = c} q)) (Answers.yes e) =
+            let y : size (q .tree) ≡ n = sym (ap (λ (x : Counts). x .total) (q .counts)) ∙ e in
+            ap Accepted (q .counts ∙ ap parseCounts y)
 
     pub parse-place : (j e : ℕ) → r ≡ Refused (reasons.Syntax j e) → Longest G w j
     parse-place j e q = answered-place g answered j e q

@@ -7,7 +7,6 @@ use lib.ListN.{length, take, drop, take-append-drop, drop-of-length-le}
 use lib.Seq.{take-at, drop-at, length-take-le}
 use native.Mathlib.Omega.{arith}
 use Rattle.base.specs.Bytes.{get16}
-use Rattle.base.specs.Choose.{never}
 use Rattle.grammar.specs.Each.{Each, each-join}
 use Rattle.grammar.specs.Grammar.{Grammar}
 use Rattle.grammar.specs.Prediction.{Prepared}
@@ -16,11 +15,11 @@ use Rattle.grammar.specs.Forest.{Token, Forest, size, yield}
 use Rattle.tables.specs.Tables.{Tables}
 use Rattle.trees.specs.Area.{tokensPlace, slotAt, top, Valid}
 use Rattle.walks.specs.Reading.{valid-header}
-use Rattle.plain.specs.Plain.{Verdict, accepted, syntax, noRoom, Parses}
+use Rattle.plain.specs.Plain.{Verdict, accepted, Parses}
 use Rattle.plain.specs.One.{runs-one}
 use Rattle.plain.specs.Traced.{terminals}
 use Rattle.plain.specs.Viable.{Longest}
-use Rattle.plain.specs.Tokens.{tokenSize, tokenBytes, Sentence, bad-not-sentence, sentence-one}
+use Rattle.plain.specs.Tokens.{tokenSize, tokenBytes, Sentence}
 use Rattle.edits.specs.Keeping.{Edit, edited, Node, Keeps, Altered}
 use Rattle.edits.specs.Places.{treeSize}
 use Rattle.edits.specs.Edited.{Trees, altered-trees}
@@ -37,12 +36,13 @@ use Rattle.replies.specs.declared.Reason.{Reason}
 use Rattle.replies.specs.declared.Reply.{Reply}
 use Rattle.replies.specs.declared.Reason.the-variants as reasons
 use Rattle.replies.specs.declared.Reply.the-variants.{Accepted, Refused}
-use Rattle.kindlesap.specs.Judged.{Judged, useless, conflict, fit, Opened, bad-image, good-image, opened-fit}
-use Rattle.kindlesap.specs.Parse.{workAreas, Sized, sized-one, Fits, ParseOutcome, stored-parses}
-use Rattle.kindlesap.specs.Parse as parse
-use Rattle.kindlesap.specs.ReadBack.{readCounts, needed, returned, ReadOutcome, read-one}
-use Rattle.kindlesap.specs.Deciding.{Answers, Alike, answers-alike, Answered, answered-exactly, answered-place, fits-answered}
-use Rattle.kindlesap.specs.Edit.{editCounts, Edits, wrong-tables, no-tree, short-work, bad-token, beyond, wrong-syntax, no-room, altered, EditOutcome, tokens-one, altered-parses, same-parse}
+use Rattle.order.specs.Order.{passed, accepted as done, require-single, refusal-keeps, passes, has-passed, is-accepted}
+use Rattle.order.specs.Checks.{given, Holds}
+use Rattle.order.specs.Single.{validOf, valid-sized, valid-holds, area-single, tree-single, sentence-single, given-fit, given-accepted}
+use Rattle.kindlesap.specs.Parse.{workAreas, Sized, fits, ParseOutcome}
+use Rattle.kindlesap.specs.ReadBack.{readCounts, needed, ReadOutcome, read-one}
+use Rattle.kindlesap.specs.Deciding.{Answers, Alike, answers-alike, Answered, answered-exactly, answered-place, parsed-answered, fits-answered}
+use Rattle.kindlesap.specs.Edit.{Renewal, edits, EditOutcome, altered-parses}
 
 -- ---- after an accepted edit
 
@@ -64,52 +64,42 @@ pub record Renewed (image tree : List ℕ) (place removed : ℕ) (tokens : List 
   pub kept-and-made : c .kept + c .made ≡ c .total
   pub kept-and-given-up : c .kept + c .«given_up» ≡ size (old .tree)
 
+module _ {G : Grammar} {S : ℕ} {e : Edit} {old : Forest} {c : Counts} {tree' : List ℕ} where
+  adds-new : Renewal G S e old c tree' → c .kept + c .made ≡ c .total
+  adds-new x = let a = x .altered in omega (arith, x .total, a .kept-count, a .made-count, kept-made (a .held), a .holding .long)
+
+  adds-old : {tree : List ℕ} → Prepared G → Holds G S tree old → Renewal G S e old c tree' → c .kept + c .«given_up» ≡ size old
+  adds-old g v x = let a = x .altered in omega (arith, a .kept-count, kept-given-up (v .area) (holding-held g (a .derives) (v .area) (a .holding)) (a .holding) (a .given-up))
+
 pub edit-renews : {image tables tree tokens work tree' work' : List ℕ} {place removed : ℕ} {r : Reply} (c : Counts) → EditOutcome image tables tree place removed tokens work r tree' work' → r ≡ Accepted c
     → Renewed image tree place removed tokens c tree'
-edit-renews {image} {tables} {tree} {tokens} {work} {place = place} {removed} c h e = go (h .opened) e
-  where
-    changed : {G : Grammar} {r : Reply} {v : List ℕ} → Image image G → Prepared G → Edits tables tokens place removed (length work) tree G r v → r ≡ Accepted c → Renewed image tree place removed tokens c v
-    changed i g (wrong-tables n) e = never (cc)
-    changed i g (no-tree t n) e = never (cc)
-    changed i g (short-work t v l) e = never (cc)
-    changed i g (bad-token t v l b) e = never (cc)
-    changed i g (beyond t v l s o) e = never (cc)
-    changed i g (wrong-syntax t v l s o p) e = never (cc)
-    changed i g (no-room t v l s o p) e = never (cc)
-    changed {G} i g (altered {S = S} {kept = kept} {made = made} {up = up} {w = w} new t v l s o p a) e =
-        let q : editCounts (size new) kept made up ≡ c = cc in
-        let n = ap (λ (x : Counts). x .total) q in
-        let k = ap (λ (x : Counts). x .kept) q in
-        let m = ap (λ (x : Counts). x .made) q in
-        let u = ap (λ (x : Counts). x .«given_up») q in
-        let x : kept + made ≡ size new = omega (arith, p .kept-count, p .made-count, kept-made (p .held), p .holding .long) in
-        let y : kept + up ≡ size (v .tree) = omega (arith, p .kept-count, kept-given-up (v .area) (holding-held g (p .derives) (v .area) (p .holding)) (p .holding) (p .given-up)) in
-        record {
-          grammar = G;
-          prepared = g;
-          reads = i;
-          slots = S;
-          old = v;
-          new = record { some = v .some; few = v .few; tree = new; derives = p .derives; area = a };
-          inserted = w;
-          sentence = s;
-          within = o;
-          yields = p .yields;
-          slotted = rw (k, m, u) at p;
-          total = sym n;
-          kept-and-made = omega (arith, x, n, k, m);
-          kept-and-given-up = omega (arith, y, k, u);
-        }
-
-    judged : {G : Grammar} {r : Reply} {v : List ℕ} → Image image G → Judged G (Edits tables tokens place removed (length work) tree G) tree r v → r ≡ Accepted c
-        → Renewed image tree place removed tokens c v
-    judged i (useless x) e = never (cc)
-    judged i (conflict n x) e = never (cc)
-    judged i (fit p q) e = changed i p q e
-
-    go : {r : Reply} {v : List ℕ} → Opened image (Edits tables tokens place removed (length work) tree) tree r v → r ≡ Accepted c → Renewed image tree place removed tokens c v
-    go (bad-image x) e = never (cc)
-    go (good-image i j) e = judged i j e
+edit-renews {image} {tables} {tree} {tokens} {work} {tree'} {place = place} {removed} {r} c h e =
+    let (G, i, g, o) = given-accepted image (edits tables tokens place removed (length work) tree) tree r tree' e (h .opened) in
+    let (_, t, o₄) = has-passed e o in
+    let (S, z, o₅) = has-passed e o₄ in
+    let (old, v, o₅') = has-passed e o₅ in
+    let (_, l, o₆) = has-passed e o₅' in
+    let (w, s, o₇) = has-passed e o₆ in
+    let (_, m, o₈) = has-passed e o₇ in
+    let (n, p, o₉) = has-passed e o₈ in
+    let x : Renewal G S (editOf place removed w) old c tree' = is-accepted e o₉ in
+    let a = x .altered in
+    record {
+      grammar = G;
+      prepared = g;
+      reads = i;
+      slots = S;
+      old = validOf z v;
+      new = record { some = z .some; few = z .few; tree = x .new; derives = a .derives; area = x .area };
+      inserted = w;
+      sentence = s;
+      within = m;
+      yields = a .yields;
+      slotted = a;
+      total = x .total;
+      kept-and-made = adds-new x;
+      kept-and-given-up = adds-old g v x;
+    }
 
 -- ---- read back of the new tree
 
@@ -135,6 +125,11 @@ replaced-bytes : (place removed : ℕ) (w ins : List Token) → place + removed 
 replaced-bytes place removed w ins l =
     rw (take-bytes w place (omega arith), drop-bytes w (place + removed) l, token-bytes-append (take place w) (ins ++ drop (place + removed) w), token-bytes-append ins (drop (place + removed) w))
 
+-- read back gives a valid tree's tokens
+reads-tree : {image tree : List ℕ} {G : Grammar} {S : ℕ} → Image image G → Prepared G → (v : Valid G S tree) (output : List ℕ) → needed (v .tree) ≤ length output
+    → ReadOutcome image tree output (Accepted (readCounts (size (v .tree)))) (tokenBytes (yield (v .tree)) ++ drop (needed (v .tree)) output)
+reads-tree i g v output l = passed i (passed (g .useful) (passed (g .ll1) (passed (valid-sized v) (passed (valid-holds v) (passed l (done (refl, refl)))))))
+
 module _ {image tables tree tokens work tree' work' before old : List ℕ} {place removed : ℕ} {r r₀ : Reply} (c : Counts) (h : EditOutcome image tables tree place removed tokens work r tree' work') (e : r ≡ Accepted c)
     (back : ReadOutcome image tree before r₀ old) (whole : length before ≡ tokenSize * get16 tree tokensPlace) (output : List ℕ) (l : length (replaced old place removed tokens) ≤ length output) where
   abbrev x : Renewed image tree place removed tokens c tree'
@@ -144,8 +139,8 @@ module _ {image tables tree tokens work tree' work' before old : List ℕ} {plac
   old-bytes =
       let f : Forest = x .old .tree in
       let n : needed f ≡ length before = let y = valid-header (x .old) .tokens in omega (arith, y, whole) in
-      let z : ReadOutcome image tree before (Accepted (readCounts (size f))) (tokenBytes (yield f) ++ drop (needed f) before) = good-image (x .reads) (fit (x .prepared) (returned (x .old) (omega (arith, n)))) in
-      read-one back z .1 ∙ rw (n, drop-of-length-le before {i = length before} (omega arith), append-nil (tokenBytes (yield f)))
+      let z : ReadOutcome image tree before (Accepted (readCounts (size f))) (tokenBytes (yield f) ++ drop (needed f) before) = reads-tree (x .reads) (x .prepared) (x .old) before (omega (arith, n)) in
+      read-one _ _ _ _ back z .1 ∙ rw (n, drop-of-length-le before {i = length before} (omega arith), append-nil (tokenBytes (yield f)))
 
   new-bytes : replaced old place removed tokens ≡ tokenBytes (yield (x .new .tree))
   new-bytes =
@@ -157,13 +152,13 @@ module _ {image tables tree tokens work tree' work' before old : List ℕ} {plac
   edit-read-back =
       let f : Forest = x .new .tree in
       let k : needed f ≡ length (replaced old place removed tokens) = sym (ap length new-bytes ∙ length-token-bytes (yield f)) in
-      let z : ReadOutcome image tree' output (Accepted (readCounts (size f))) (tokenBytes (yield f) ++ drop (needed f) output) = good-image (x .reads) (fit (x .prepared) (returned (x .new) (omega (arith, k, l)))) in
+      let z : ReadOutcome image tree' output (Accepted (readCounts (size f))) (tokenBytes (yield f) ++ drop (needed f) output) = reads-tree (x .reads) (x .prepared) (x .new) output (omega (arith, k, l)) in
       rw (← x .total, ← new-bytes, k) at z
 
   -- and nothing else
   pub edit-read-back-one : {r' : Reply} {output' : List ℕ} → ReadOutcome image tree' output r' output'
       → (r' ≡ Accepted (readCounts (c .total))) × (output' ≡ replaced old place removed tokens ++ drop (length (replaced old place removed tokens)) output)
-  edit-read-back-one k = read-one k edit-read-back
+  edit-read-back-one k = read-one _ _ _ _ k edit-read-back
 
 -- ---- what an accepted edit leaves as it was
 
@@ -191,26 +186,8 @@ module _ {image tree tokens tree' : List ℕ} {place removed : ℕ} {c : Counts}
 
 -- a refusal leaves the tree as it was
 pub edit-refused : {image tables tree tokens work tree' work' : List ℕ} {place removed : ℕ} {r : Reply} (x : Reason) → EditOutcome image tables tree place removed tokens work r tree' work' → r ≡ Refused x → tree' ≡ tree
-edit-refused {image} {tables} {tree} {tokens} {work} {place = place} {removed} x h e = go (h .opened) e
-  where
-    unchanged : {G : Grammar} {r : Reply} {v : List ℕ} → Edits tables tokens place removed (length work) tree G r v → r ≡ Refused x → v ≡ tree
-    unchanged (wrong-tables n) e = refl
-    unchanged (no-tree t n) e = refl
-    unchanged (short-work t v l) e = refl
-    unchanged (bad-token t v l b) e = refl
-    unchanged (beyond t v l s o) e = refl
-    unchanged (wrong-syntax t v l s o p) e = refl
-    unchanged (no-room t v l s o p) e = refl
-    unchanged (altered new t v l s o p a) e = never (cc)
-
-    judged : {G : Grammar} {r : Reply} {v : List ℕ} → Judged G (Edits tables tokens place removed (length work) tree G) tree r v → r ≡ Refused x → v ≡ tree
-    judged (useless y) e = refl
-    judged (conflict n y) e = refl
-    judged (fit p q) e = unchanged q e
-
-    go : {r : Reply} {v : List ℕ} → Opened image (Edits tables tokens place removed (length work) tree) tree r v → r ≡ Refused x → v ≡ tree
-    go (bad-image y) e = refl
-    go (good-image i j) e = judged j e
+edit-refused {image} {tables} {tree} {tokens} {work} {tree'} {place = place} {removed} {r} x h e =
+    refusal-keeps (given image (edits tables tokens place removed (length work) tree)) tree tree' r x e (h .opened)
 
 -- ---- the plain parse of the new sentence decides
 
@@ -219,25 +196,25 @@ module _ {G : Grammar} (g : Prepared G) (place removed : ℕ) {S : ℕ} {image t
   abbrev sentence : List Token
   sentence = edited (editOf place removed w) (yield (v .tree))
 
-  edits-answered : {room : ℕ} {r : Reply} {tree' : List ℕ} → workAreas * length tree ≤ room → Edits tables tokens place removed room tree G r tree' → Answered G S sentence r
-  edits-answered l (wrong-tables n) = absurd (n t)
-  edits-answered l (no-tree t' n) = absurd (n S v)
-  edits-answered l (short-work t' v' l') = absurd (omega (arith, l, l'))
-  edits-answered l (bad-token t' v' l' b) = absurd (bad-not-sentence b s)
-  edits-answered l (beyond t' v' l' s' o') = absurd (omega (arith, o, o', tokens-one v v'))
-  edits-answered l (wrong-syntax {i = k} {e = e} t' v' l' s' o' p) = record { verdict = syntax k e; parses = same-parse place removed v v' s s' p; answers = Answers.nine }
-  edits-answered l (no-room t' v' l' s' o' p) = record { verdict = noRoom; parses = same-parse place removed v v' s s' p; answers = Answers.ten }
-  edits-answered l (altered new t' v' l' s' o' p a) = record { verdict = accepted (size new); parses = same-parse place removed v v' s s' (altered-parses (v' .some) p); answers = Answers.yes refl }
+  edits-answered : {work tree' work' : List ℕ} {r : Reply} → workAreas * length tree ≤ length work → EditOutcome image tables tree place removed tokens work r tree' work' → Answered G S sentence r
+  edits-answered {work} {tree'} {r = r} l h =
+      let a = passes require-single t (given-fit image (edits tables tokens place removed (length work) tree) tree r tree' i g (h .opened)) in
+      let b = passes (tree-single (valid-sized v)) (valid-holds v) (passes area-single (valid-sized v) a) in
+      let d = passes require-single o (passes sentence-single s (passes require-single l b)) in
+      parsed-answered (λ n c u p q. let e = runs-one g (altered-parses (v .some) (q .altered)) p in q .total ∙ size-of e) d
+    where
+      size-of : {m n : ℕ} → accepted m ≡ accepted n → m ≡ n
+      size-of e = cc
 
   -- an edit's reply, place, expected set and total are those of the plain parse of the new sentence into as many slots
   pub edit-plain : {work tree' work' : List ℕ} {r : Reply} → workAreas * length tree ≤ length work → EditOutcome image tables tree place removed tokens work r tree' work'
       → (u : Verdict) → Parses G S sentence u ↔ Answers u r
-  edit-plain l h = answered-exactly g (edits-answered l (opened-fit i g (h .opened)))
+  edit-plain l h = answered-exactly g (edits-answered l h)
 
   -- "With reply 9, its place equals the number of tokens in the longest beginning of the sentence that also begins some sentence of the language"
   pub edit-place : {work tree' work' : List ℕ} {r : Reply} (k e : ℕ) → workAreas * length tree ≤ length work → EditOutcome image tables tree place removed tokens work r tree' work' → r ≡ Refused (reasons.Syntax k e)
       → Longest G sentence k
-  edit-place k e l h q = answered-place g (edits-answered l (opened-fit i g (h .opened))) k e q
+  edit-place k e l h q = answered-place g (edits-answered l h) k e q
 
   -- the new sentence has bytes
   pub sentence-bytes : Sentence (G .t) (tokenBytes sentence) sentence
@@ -252,7 +229,7 @@ module _ {G : Grammar} (g : Prepared G) (place removed : ℕ) {S : ℕ} {image t
   -- parse of the new sentence's bytes, into any area of that length, has the same number, place, expected set and total
   pub edit-as-parse : {work tree' work' b area room area' room' : List ℕ} {r r' : Reply} → workAreas * length tree ≤ length work → EditOutcome image tables tree place removed tokens work r tree' work'
       → Sized S area → workAreas * length area ≤ length room → Sentence (G .t) b sentence → ParseOutcome image tables b area room r' area' room' → Alike r r'
-  edit-as-parse {r' = r'} l h z m k o =
-      let a = edits-answered l (opened-fit i g (h .opened)) in
-      let c = fits-answered g t z m k (opened-fit i g (o .opened)) in
+  edit-as-parse {b = b} {area} {room} {area'} {r' = r'} l h z m k o =
+      let a = edits-answered l h in
+      let c = fits-answered g t (length room) b area area' r' z m k (given-fit image (fits tables b (length room) area) area r' area' i g (o .opened)) in
       answers-alike (a .answers) (subst (λ (u : Verdict). Answers u r') (runs-one g (c .parses) (a .parses)) (c .answers))

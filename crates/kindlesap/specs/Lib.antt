@@ -1,14 +1,12 @@
--- Meaning: replies 1 to 3, and what the calls do.
-pub mod Judged
+-- Meaning: what the calls do.
 pub mod Prepare
 pub mod Parse
 pub mod ReadBack
 pub mod Edit
 -- The laws that the proofs of the calls cite.
-pub mod Judging
+pub mod Opening
 pub mod Storing
 pub mod Returning
-pub mod Editing
 -- Across calls, and demand 2 at the calls.
 pub mod Deciding
 pub mod Across

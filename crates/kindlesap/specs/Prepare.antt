@@ -11,17 +11,18 @@ use Rattle.tables.specs.One.{tables-one}
 use Rattle.replies.specs.Reply.{noCounts, replyBytes}
 use Rattle.replies.specs.declared.Reply.{Reply}
 use Rattle.replies.specs.declared.Reason.the-variants.{WrongTables}
-use Rattle.replies.specs.declared.Reply.the-variants.{Accepted, Refused}
-use Rattle.kindlesap.specs.Judged.{Opened, One, opened-one}
+use Rattle.order.specs.Order.{Call, accept, _>>_, Outcome, require, Settled, One, one-outcome, require-single}
+use Rattle.order.specs.Checks.{given}
+use Rattle.order.specs.Single.{given-settled}
 
--- of a grammar that passes replies 2 and 3: reply 4, "tables of another length", or its tables
-pub data Writes (w : List ℕ) (G : Grammar) : Reply → List ℕ → Type 0 where
-  wrong-size : (length w ≡ tablesSize → ⊥) → Writes w G (Refused WrongTables) w
-  written : {w' : List ℕ} → length w ≡ tablesSize → Tables G w' → Writes w G (Accepted noCounts) w'
+abbrev pub writes : List ℕ → Grammar → Call (List ℕ)
+writes tables G = do
+  require (length tables ≡ tablesSize) WrongTables  -- 4: "tables of another length"
+  accept (λ c tables'. (c ≡ noCounts) × Tables G tables')  -- "prepare none"
 
--- the reply, and the tables after the call, which were w before it
+-- the reply, and the tables after the call
 abbrev pub Prepares : List ℕ → List ℕ → Reply → List ℕ → Type 0
-Prepares image w r w' = Opened image (Writes w) w r w'
+Prepares image tables = Outcome (given image (writes tables)) tables
 
 -- with the reply's bytes, "as much as fits"
 pub record Called (image w b w' b' : List ℕ) : Type 0 where
@@ -31,20 +32,14 @@ pub record Called (image w b w' b' : List ℕ) : Type 0 where
 
 -- ---- no second outcome
 
-writes-one : {w : List ℕ} (G : Grammar) → Prepared G → One (Writes w G)
-writes-one {w} G p r r' v v' h k = go h k
-  where
-    go : {r r' : Reply} {v v' : List ℕ} → Writes w G r v → Writes w G r' v' → (r ≡ r') × (v ≡ v')
-    go (wrong-size n) (wrong-size m) = (refl, refl)
-    go (wrong-size n) (written l t) = absurd (n l)
-    go (written l t) (wrong-size n) = absurd (n l)
-    go (written l t) (written m u) = (refl, tables-one p t u)
+writes-settled : (tables : List ℕ) (G : Grammar) → Prepared G → Settled (writes tables G)
+writes-settled tables G g = (require-single, λ _ l c d v w h k. (h .0 ∙ sym (k .0), tables-one g (h .1) (k .1)))
 
-pub prepares-one : {image w : List ℕ} {r r' : Reply} {v v' : List ℕ} → Prepares image w r v → Prepares image w r' v' → (r ≡ r') × (v ≡ v')
-prepares-one h k = opened-one writes-one h k
+pub prepares-one : {image w : List ℕ} → One (Prepares image w)
+prepares-one {image} {w} = one-outcome (given image (writes w)) (given-settled image (writes w) (writes-settled w)) w
 
 -- of the exported call: tables and reply bytes
 pub called-one : {image w b w' w'' b' b'' : List ℕ} → Called image w b w' b' → Called image w b w'' b'' → (w' ≡ w'') × (b' ≡ b'')
-called-one {b = b} u v =
-    let q = prepares-one (u .prepares) (v .prepares) in
+called-one {image} {w} {b} {w'} {w''} u v =
+    let q = prepares-one (u .reply) (v .reply) w' w'' (u .prepares) (v .prepares) in
     (q .1, u .bytes ∙ ap (λ (r : Reply). copied b 0 (replyBytes r)) (q .0) ∙ sym (v .bytes))

@@ -1,6 +1,6 @@
 -- The laws that the proof of read back cites.
 use Prim.Native.Nat.{ℕ, _-_, _*_, _≤_, _<_}
-use mathlib.Core.Path.{_≡_, _∙_, subst}
+use mathlib.Core.Path.{_≡_, ap}
 use mathlib.Core.List.{List, _++_}
 use lib.ListN.{length, take, drop}
 use lib.Seq.{take-all}
@@ -8,8 +8,8 @@ use native.Mathlib.Omega.{arith}
 use Rattle.base.specs.Bytes.{get16}
 use Rattle.grammar.specs.Grammar.{Grammar}
 use Rattle.grammar.specs.Forest.{Token, yield}
-use Rattle.grammar.specs.Rows.{grammarIn}
-use Rattle.trees.specs.Area.{tokensPlace, areaSize, Valid}
+use Rattle.grammar.specs.declared.Head.{Head}
+use Rattle.trees.specs.Area.{tokensPlace}
 use Rattle.walks.specs.Reading.{valid-header}
 use Rattle.plain.specs.Tokens.{tokenSize, tokenBytes}
 use Rattle.matching.specs.Measure.{few-tokens}
@@ -18,40 +18,34 @@ use Rattle.sentences.specs.Leaves.{leavesFrom, leaves-whole, Gave}
 use Rattle.altering.specs.Treed.{Treed, leaves, treed-fits}
 use Rattle.replies.specs.declared.Reason.the-variants as reasons
 use Rattle.replies.specs.declared.Reply.the-variants.{Accepted, Refused}
-use Rattle.kindlesap.specs.ReadBack.{readCounts, needed, Returns, no-tree, short-output, returned}
-use Rattle.kindlesap.specs.Storing.{Slotted}
+use Rattle.order.specs.Order.{Outcome, refused, passed, accepted, exactly}
+use Rattle.order.specs.Checks.{headed}
+use Rattle.order.specs.Single.{valid-sized, valid-holds}
+use Rattle.kindlesap.specs.ReadBack.{readCounts, needed, returns}
 
-module _ (tree output : List ℕ) (G : Grammar) where
-  pub returns-wrong : (n S : ℕ) → n ≡ length tree → Slotted n S → S ≡ 0 → Returns tree output G (Refused reasons.WrongTree) output
-  returns-wrong n S e h z = no-tree (λ T v. h .wrong z T (v .some) (v .few) (e ∙ v .area .long))
-
-  pub returns-none : (S : ℕ) → length tree ≡ areaSize S → (Valid G S tree → ⊥) → Returns tree output G (Refused reasons.WrongTree) output
-  returns-none S l f =
-      no-tree (λ T v. let q : T ≡ S = let m = v .area .long in omega arith in f (subst (λ (x : ℕ). Valid G x tree) q v))
-
-module _ (rows : List ℕ) (t n start count S : ℕ) (tree nodes : List ℕ) (o : ℕ) (h : Treed (grammarIn rows t n start count) S tree nodes o) where
+module _ (rows : List ℕ) (k : Head) (S : ℕ) (tree nodes : List ℕ) (o : ℕ) (h : Treed (headed rows k) S tree nodes o) where
   abbrev H : Grammar
-  H = grammarIn rows t n start count
+  H = headed rows k
 
-  pub returns-short : (output : List ℕ) (m need : ℕ) → m ≡ get16 tree tokensPlace → need ≡ tokenSize * m → length output < need → Returns tree output H (Refused (reasons.ShortOutput need)) output
+  pub returns-short : (output : List ℕ) (m need : ℕ) → m ≡ get16 tree tokensPlace → need ≡ tokenSize * m → length output < need → Outcome (returns tree output H) output (Refused (reasons.ShortOutput need)) output
   returns-short output m need e f l =
       let q : need ≡ needed (h .valid .tree) = let y = valid-header (h .valid) .tokens in omega (arith, e, f, y) in
-      rw q (short-output (h .valid) (rw q at l))
+      rw q (passed (valid-sized (h .valid)) (passed (valid-holds (h .valid)) (refused (exactly (λ x. omega (arith, q, l, x))))))
 
   -- there are no more tokens than slots
   pub tokens-fit : (m : ℕ) → m ≡ get16 tree tokensPlace → m ≤ S
   tokens-fit m e =
-      let l = treed-fits rows t n start count S tree nodes o h in
+      let l = treed-fits rows (k .t) (k .n) (k .start) (k .count) S tree nodes o h in
       let y = valid-header (h .valid) .tokens in
       omega (arith, e, y, l, h .count, few-tokens (h .valid .tree))
 
   pub returns-given : (output output' : List ℕ) (m i j : ℕ) → m ≡ get16 tree tokensPlace → tokenSize * m ≤ length output → Gave nodes o 0 output 0 m i j output'
-      → Returns tree output H (Accepted (readCounts o)) output'
+      → Outcome (returns tree output H) output (Accepted (readCounts o)) output'
   returns-given output output' m i j e l u =
       let w : List Token = yield (h .valid .tree) in
       let c : m ≡ length w = let y = valid-header (h .valid) .tokens in omega (arith, e, y) in
-      let t : take (m - 0) (leavesFrom nodes o 0) ≡ w = rw (leaves-whole nodes o, leaves rows t n start count S tree nodes o h) (take-all (m - 0) w (omega arith)) in
+      let t : take (m - 0) (leavesFrom nodes o 0) ≡ w = rw (leaves-whole nodes o, leaves rows (k .t) (k .n) (k .start) (k .count) S tree nodes o h) (take-all (m - 0) w (omega arith)) in
       let a : Added w output output' 0 j = rw t at (u .added) in
       let q : tokenSize * j ≡ needed (h .valid .tree) = omega (arith, a .count) in
       let s : output' ≡ tokenBytes w ++ drop (needed (h .valid .tree)) output = rw (← q) (a .is) in
-      rw (s, h .count) (returned (h .valid) (omega arith))
+      passed (valid-sized (h .valid)) (passed (valid-holds (h .valid)) (passed (omega (arith, c, l)) (accepted (ap readCounts (h .count), s))))

@@ -1,6 +1,6 @@
 -- The laws that the proof of parse cites: an accepted sentence's node list is its derivation tree in preorder, and is laid out so.
 use Prim.Native.Nat.{ℕ, zero, suc, _+_, _-_, _*_, _/_, _%_, _≤_, _<_}
-use mathlib.Core.Path.{_≡_, refl, sym, ap, _∙_}
+use mathlib.Core.Path.{_≡_, refl, sym, ap, _∙_, subst}
 use mathlib.Core.List.{List, [], _∷_, List·Memᴰ, List·Memᴰ·head, List·Memᴰ·tail}
 use lib.ListN.{length}
 use native.Mathlib.Omega.{arith}
@@ -18,14 +18,16 @@ use Rattle.plain.specs.Exactly.{accepted-exactly}
 use Rattle.plain.specs.Tokens.{Sentence, tokensFrom}
 use Rattle.plain.specs.Text.{parseSize}
 use Rattle.plain.specs.Machine.{Ground, Numbered, Done}
-use Rattle.plain.specs.Outcome.{Told, Ran, is-wrong, is-full, is-good, is-bad}
-use Rattle.plain.specs.declared.Tokens.{Tokens}
+use Rattle.plain.specs.Outcome.{Told, is-good, is-bad, Ran, is-wrong, is-full}
 use Rattle.plain.specs.declared.Parsed.{Parsed}
+use Rattle.plain.specs.declared.Tokens.{Tokens}
 use Rattle.altering.specs.Treed.{arity-rows}
 use Rattle.replies.specs.declared.Reply.{Reply}
 use Rattle.replies.specs.declared.Reason.the-variants as reasons
 use Rattle.replies.specs.declared.Reply.the-variants.{Accepted, Refused}
-use Rattle.kindlesap.specs.Parse.{workAreas, Sized, upFrom, Stored, parseCounts, Fits, wrong-area, short-work, bad-token, wrong-syntax, no-room, stored}
+use Rattle.order.specs.Order.{refused, passed, accepted, exactly, at}
+use Rattle.order.specs.Checks.{area, wrong-syntax, no-room}
+use Rattle.kindlesap.specs.Parse.{workAreas, Sized, upFrom, Stored, parseCounts, Fits}
 
 -- ---- slots 1, 2, ..
 
@@ -95,9 +97,7 @@ module _ (rows : List ℕ) (t n start count : ℕ) (tables b : List ℕ) (m : �
       → Fits tables b room tree G (Accepted (parseCounts o)) tree'
   unfolding grammarIn
   done-accepted room tree tree' z k s a =
-      let u : Area S (forest .0) tree' = rw built at a in
-      let v : Fits tables b room tree G (Accepted (parseCounts (size (forest .0)))) tree' = stored (forest .0) (g .tables) z k s done-stored u in
-      rw sized at v
+      passed (g .tables) (passed z (passed k (passed s (passed (d .parses) (accepted (record { tree = forest .0; stored = done-stored; counts = ap parseCounts (sym sized); area = rw built at a }))))))
 
 -- ---- the ways through parse
 
@@ -120,36 +120,27 @@ slotted-right n S l z q m = record { right = λ _. (omega arith, m, omega arith)
 
 pub ruleset slotting = (slotted-short, slotted-odd, slotted-long, slotted-right)
 
-pub sized-of : (tree : List ℕ) (n S : ℕ) → n ≡ length tree → Slotted n S → (S ≡ 0 → ⊥) → Sized S tree
-sized-of tree n S e h z = let q = h .right z in record { some = q .0; few = q .1; long = sym e ∙ q .2 }
+pub sized-of : {tree : List ℕ} {n S : ℕ} → Slotted n S → (S ≡ 0 → ⊥) → n ≡ length tree → Sized S tree
+sized-of h z e = let q = h .right z in record { some = q .0; few = q .1; long = sym e ∙ q .2 }
 
+-- the same, of a work area of the same length
 pub fits-room : (tables tokens tree : List ℕ) (G : Grammar) (room room' : ℕ) (r : Reply) (tree' : List ℕ) → room ≡ room' → Fits tables tokens room tree G r tree' → Fits tables tokens room' tree G r tree'
-fits-room tables tokens tree G room room' r tree' e h = rw e at h
+fits-room tables tokens tree G room room' r tree' e h = subst (λ n. Fits tables tokens n tree G r tree') e h
 
-module _ (rows : List ℕ) (t n start count : ℕ) (tables tokens : List ℕ) (room : ℕ) (tree : List ℕ) (h : Tables (grammarIn rows t n start count) tables) where
-  abbrev H : Grammar
-  H = grammarIn rows t n start count
+pub area-wrong : {tree : List ℕ} {n S : ℕ} → Slotted n S → S ≡ 0 → n ≡ length tree → area tree .Fail reasons.WrongTree
+area-wrong h z e = exactly (λ T v. h .wrong z T (v .some) (v .few) (e ∙ v .long))
 
-  pub fits-area : (k S : ℕ) → k ≡ length tree → Slotted k S → S ≡ 0 → Fits tables tokens room tree H (Refused reasons.WrongTree) tree
-  fits-area k S e u z = wrong-area h (λ T v. u .wrong z T (v .some) (v .few) (e ∙ v .long))
+-- what is behind reply 6 refuses
+module _ {G : Grammar} {tables tokens tree : List ℕ} {room S : ℕ} (h : Tables G tables) (z : Sized S tree) (l : workAreas * length tree ≤ room) where
+  pub fits-token : {r : Tokens} (k : ℕ) → Told (G .t) tokens r → r ≡ Tokens.Bad k → Fits tables tokens room tree G (Refused (reasons.BadToken k)) tree
+  fits-token k u e = passed h (passed z (passed l (refused (at (is-bad k u e)))))
 
-  module _ (S : ℕ) (z : Sized S tree) where
-    pub fits-work : (need : ℕ) → need ≡ workAreas * length tree → room < need → Fits tables tokens room tree H (Refused (reasons.ShortWork need)) tree
-    fits-work need e l = rw e (short-work h z (rw e at l))
+  module _ {m : ℕ} {work : List ℕ} {r : Parsed} (s : Sentence (G .t) tokens (tokensFrom tokens m 0)) (u : Ran G S tokens m work r) where
+    pub fits-syntax : (i e : ℕ) → r ≡ Parsed.Syntax i e → Fits tables tokens room tree G (Refused (reasons.Syntax i e)) tree
+    fits-syntax i e q = passed h (passed z (passed l (passed s (refused (wrong-syntax (is-wrong i e u q))))))
 
-    module _ (l : workAreas * length tree ≤ room) where
-      pub fits-token : {r : Tokens} (k : ℕ) → Told t tokens r → r ≡ Tokens.Bad k → Fits tables tokens room tree H (Refused (reasons.BadToken k)) tree
-      unfolding grammarIn
-      fits-token k u e = bad-token h z l (is-bad k u e)
-
-      module _ {m : ℕ} (s : Sentence t tokens (tokensFrom tokens m 0)) where
-        pub fits-syntax : {work : List ℕ} {r : Parsed} (i e : ℕ) → Ran H S tokens m work r → r ≡ Parsed.Syntax i e → Fits tables tokens room tree H (Refused (reasons.Syntax i e)) tree
-        unfolding grammarIn
-        fits-syntax i e u q = wrong-syntax h z l s (is-wrong i e u q)
-
-        pub fits-no-room : {work : List ℕ} {r : Parsed} → Ran H S tokens m work r → r ≡ Parsed.NoRoom → Fits tables tokens room tree H (Refused reasons.NoRoom) tree
-        unfolding grammarIn
-        fits-no-room u q = no-room h z l s (is-full u q)
+    pub fits-no-room : r ≡ Parsed.NoRoom → Fits tables tokens room tree G (Refused reasons.NoRoom) tree
+    fits-no-room q = passed h (passed z (passed l (passed s (refused (no-room (is-full u q))))))
 
 -- what a parse stands on, from the tests before it
 pub grounded : (rows : List ℕ) (t n start count : ℕ) (tables b : List ℕ) (m : ℕ) {r : Tokens} → Prepared (grammarIn rows t n start count) → Tables (grammarIn rows t n start count) tables

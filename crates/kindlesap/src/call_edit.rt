@@ -1,17 +1,15 @@
 // The call edit, but for zeroing the work area; what comes behind replies 1 to 4 is in crate editing.
-use crate::Judgement;
-use grammar::GrammarRead;
+use crate::Opening;
 use grammar::Head;
 use replies::Reason;
 use replies::Reply;
 ghost use lib.ListN.{length};
-ghost use Rattle.grammar.specs.Rows.{grammarIn};
-ghost use Rattle.grammar.specs.Grammar.{WellFormed};
 ghost use Rattle.grammar.specs.Prediction.{Prepared};
 ghost use Rattle.tables.specs.Tables.{Tables};
-ghost use Rattle.tables.specs.Outcome.{Ready};
-ghost use Rattle.kindlesap.specs.Judged.{Judged, Opened};
-ghost use Rattle.editing.specs.Edits.{Edits};
+ghost use Rattle.order.specs.Order.{Outcome};
+ghost use Rattle.order.specs.Checks.{headed, given};
+ghost use Rattle.editing.specs.Edits.{edits, Edits};
+ghost use Rattle.kindlesap.specs.Opening.{ReadyWith};
 
 // Reply 5 by the area's length, and what comes behind it.
 fn edit_area(
@@ -21,14 +19,11 @@ fn edit_area(
     removed: u32,
     tokens: &[u8],
     rows: &[u8],
-    t: usize,
-    n: usize,
-    start: usize,
-    count: usize,
+    head: Head,
     work: &mut [u8],
 ) -> Reply
-    requires { ⌜ Prepared (grammarIn (now rows) t n start count) × Tables (grammarIn (now rows) t n start count) (now tables) ⌝ }
-    ensures { λ r. ⌜ Edits (now (tables .entry)) (now (tokens .entry)) place removed (length (now (work .entry))) (now (tree .entry)) (grammarIn (now (rows .entry)) t n start count) r (now (tree .exit)) ⌝ }
+    requires { ⌜ Prepared (headed (now rows) head) × Tables (headed (now rows) head) (now tables) ⌝ }
+    ensures { λ r. ⌜ Edits (now (tables .entry)) (now (tokens .entry)) place removed (length (now (work .entry))) (now (tree .entry)) (headed (now (rows .entry)) head) r (now (tree .exit)) ⌝ }
 {
     let slots = crate::slots_of(tree.len());
     if slots == 0 {
@@ -42,10 +37,7 @@ fn edit_area(
         tokens,
         tables,
         rows,
-        t,
-        n,
-        start,
-        count,
+        head,
         work,
     )
 }
@@ -57,75 +49,28 @@ fn edit_fit(
     place: u32,
     removed: u32,
     tokens: &[u8],
-    rows: &[u8],
-    t: usize,
-    n: usize,
-    start: usize,
-    count: usize,
+    rows: &[u8; grammar::ROWS_SIZE],
+    head: Head,
     sets: &[u32],
     cells: &[u8],
     work: &mut [u8],
 ) -> Reply
-    requires { ⌜ Ready (now rows) t n start count (now sets) (now cells) ⌝ }
-    ensures { λ r. ⌜ Edits (now (tables .entry)) (now (tokens .entry)) place removed (length (now (work .entry))) (now (tree .entry)) (grammarIn (now (rows .entry)) t n start count) r (now (tree .exit)) ⌝ }
+    requires { ⌜ ReadyWith (now rows) head (now sets) (now cells) ⌝ }
+    ensures { λ r. ⌜ Edits (now (tables .entry)) (now (tokens .entry)) place removed (length (now (work .entry))) (now (tree .entry)) (headed (now (rows .entry)) head) r (now (tree .exit)) ⌝ }
 {
-    if tables::is_prepared(rows, t, n, start, count, sets, cells, tables) {
-        return edit_area(
-            tables,
-            tree,
-            place,
-            removed,
-            tokens,
-            rows,
-            t,
-            n,
-            start,
-            count,
-            work,
-        );
+    if tables::is_prepared(
+        rows,
+        head.t,
+        head.n,
+        head.start,
+        head.count,
+        sets,
+        cells,
+        tables,
+    ) {
+        return edit_area(tables, tree, place, removed, tokens, rows, head, work);
     }
     Reply::Refused(Reason::WrongTables)
-}
-
-// A grammar that was read: replies 2 and 3, and what comes behind them.
-fn edit_read(
-    head: Head,
-    rows: &[u8; grammar::ROWS_SIZE],
-    tables: &[u8],
-    tree: &mut [u8],
-    place: u32,
-    removed: u32,
-    tokens: &[u8],
-    work: &mut [u8],
-) -> Reply
-    requires { ⌜ WellFormed (grammarIn (now rows) (head .t) (head .n) (head .start) (head .count)) ⌝ }
-    ensures { λ r. ⌜ Judged (grammarIn (now (rows .entry)) (head .t) (head .n) (head .start) (head .count)) (Edits (now (tables .entry)) (now (tokens .entry)) place removed (length (now (work .entry))) (now (tree .entry)) (grammarIn (now (rows .entry)) (head .t) (head .n) (head .start) (head .count))) (now (tree .entry)) r (now (tree .exit)) ⌝ }
-{
-    let t = head.t;
-    let n = head.n;
-    let start = head.start;
-    let count = head.count;
-    let mut sets = [0u32; sets::SETS_SIZE];
-    let mut cells = [0u8; tables::PREDICTIONS_SIZE];
-    match crate::judge(rows, t, n, start, count, &mut sets, &mut cells) {
-        Judgement::Useless(symbol) => Reply::Refused(Reason::UselessSymbol(symbol as u64)),
-        Judgement::Conflict(symbol) => Reply::Refused(Reason::NotLl1(symbol as u64)),
-        Judgement::Fit => edit_fit(
-            tables,
-            tree,
-            place,
-            removed,
-            tokens,
-            rows,
-            t,
-            n,
-            start,
-            count,
-            &sets,
-            &cells,
-            work,
-        ),
-    }
 }
 
 // Replies 1 to 10, or the new tree.
@@ -138,20 +83,24 @@ pub fn edit_image(
     tokens: &[u8],
     work: &mut [u8],
 ) -> Reply
-    ensures { λ r. ⌜ Opened (now (image .entry)) (Edits (now (tables .entry)) (now (tokens .entry)) place removed (length (now (work .entry))) (now (tree .entry))) (now (tree .entry)) r (now (tree .exit)) ⌝ }
+    ensures { λ r. ⌜ Outcome (given (now (image .entry)) (edits (now (tables .entry)) (now (tokens .entry)) place removed (length (now (work .entry))) (now (tree .entry)))) (now (tree .entry)) r (now (tree .exit)) ⌝ }
 {
     let mut rows = [0u8; grammar::ROWS_SIZE];
-    match grammar::read_grammar(image, &mut rows) {
-        GrammarRead::Good(head) => edit_read(
-            head,
-            &rows,
+    let mut sets = [0u32; sets::SETS_SIZE];
+    let mut cells = [0u8; tables::PREDICTIONS_SIZE];
+    match crate::open_grammar(image, &mut rows, &mut sets, &mut cells) {
+        Opening::Fit(head) => edit_fit(
             tables,
             tree,
             place,
             removed,
             tokens,
+            &rows,
+            head,
+            &sets,
+            &cells,
             work,
         ),
-        GrammarRead::Bad(offset) => Reply::Refused(Reason::BadGrammar(offset as u64)),
+        Opening::Unfit(reason) => Reply::Refused(reason),
     }
 }

@@ -5,17 +5,18 @@ mod call_prepare;
 mod call_read_back;
 
 use grammar::GrammarRead;
+use grammar::Head;
 use replies::Reason;
 use replies::Reply;
 ghost use mathlib.Core.Path.{_≡_};
 ghost use Prim.Native.Nat.{_+_, _<_};
 ghost use lib.ListN.{length};
 ghost use Rattle.base.specs.Blocks.{zeros};
-ghost use Rattle.grammar.specs.Rows.{grammarIn};
 ghost use Rattle.grammar.specs.Grammar.{WellFormed};
 ghost use Rattle.sets.specs.Words.{setsSize};
 ghost use Rattle.tables.specs.Tables.{predictionsSize};
-ghost use Rattle.kindlesap.specs.Judging.{Found};
+ghost use Rattle.order.specs.Checks.{headed};
+ghost use Rattle.kindlesap.specs.Opening.{Judges, Opens};
 ghost use Rattle.kindlesap.specs.Prepare.{Prepares, Called};
 ghost use Rattle.kindlesap.specs.Parse.{ParseOutcome, ParseCalled};
 ghost use Rattle.kindlesap.specs.Edit.{EditOutcome, EditCalled};
@@ -24,36 +25,43 @@ ghost use Rattle.kindlesap.specs.Storing.{Slotted};
 
 pub const WORK_AREAS: usize = editing::WORK_AREAS;
 
-// What replies 2 and 3 say of a grammar.
-pub enum Judgement {
-    Fit,
-    Useless(usize),
-    Conflict(usize),
+// What replies 1 to 3 say of a grammar image.
+pub enum Opening {
+    Fit(Head),
+    Unfit(Reason),
 }
 
 // Replies 2 and 3 of the grammar in the rows; its words and its predictions on the way. The cells are zero at first.
-fn judge(
-    rows: &[u8],
-    t: usize,
-    n: usize,
-    start: usize,
-    count: usize,
+fn judge(rows: &[u8], head: Head, sets: &mut [u32], cells: &mut [u8]) -> Opening
+    requires { ⌜ WellFormed (headed (now rows) head) × (length (now sets) ≡ setsSize) × (now cells ≡ zeros predictionsSize) ⌝ }
+    ensures { λ r. ⌜ Judges (now (rows .entry)) head (now (sets .exit)) (now (cells .exit)) r ⌝ }
+{
+    sets::analyse(rows, head.t, head.start, head.count, sets);
+    let idle = predictions::useless(sets, head.t, head.n);
+    if idle != 0 {
+        return Opening::Unfit(Reason::UselessSymbol(idle as u64));
+    }
+    let low = predictions::predict(rows, head.t, head.count, sets, cells);
+    if low != 0 {
+        return Opening::Unfit(Reason::NotLl1(low as u64));
+    }
+    Opening::Fit(head)
+}
+
+// Replies 1 to 3 of an image: its grammar in the rows, with its words and its predictions, or the reason.
+fn open_grammar(
+    image: &[u8],
+    rows: &mut [u8; grammar::ROWS_SIZE],
     sets: &mut [u32],
     cells: &mut [u8],
-) -> Judgement
-    requires { ⌜ WellFormed (grammarIn (now rows) t n start count) × (length (now sets) ≡ setsSize) × (now cells ≡ zeros predictionsSize) ⌝ }
-    ensures { λ r. ⌜ Found (now (rows .entry)) t n start count (now (sets .exit)) (now (cells .exit)) r ⌝ }
+) -> Opening
+    requires { ⌜ (length (now sets) ≡ setsSize) × (now cells ≡ zeros predictionsSize) ⌝ }
+    ensures { λ r. ⌜ Opens (now (image .entry)) (now (rows .exit)) (now (sets .exit)) (now (cells .exit)) r ⌝ }
 {
-    sets::analyse(rows, t, start, count, sets);
-    let idle = predictions::useless(sets, t, n);
-    if idle != 0 {
-        return Judgement::Useless(idle);
+    match grammar::read_grammar(image, rows) {
+        GrammarRead::Good(head) => judge(rows, head, sets, cells),
+        GrammarRead::Bad(offset) => Opening::Unfit(Reason::BadGrammar(offset as u64)),
     }
-    let low = predictions::predict(rows, t, count, sets, cells);
-    if low != 0 {
-        return Judgement::Conflict(low);
-    }
-    Judgement::Fit
 }
 
 // Prepares the tables of a grammar image.
@@ -61,9 +69,11 @@ pub fn prepare(image: &[u8], tables: &mut [u8]) -> Reply
     ensures { λ r. ⌜ Prepares (now (image .entry)) (now (tables .entry)) r (now (tables .exit)) ⌝ }
 {
     let mut rows = [0u8; grammar::ROWS_SIZE];
-    match grammar::read_grammar(image, &mut rows) {
-        GrammarRead::Good(head) => call_prepare::prepare_read(head, &rows, tables),
-        GrammarRead::Bad(offset) => Reply::Refused(Reason::BadGrammar(offset as u64)),
+    let mut sets = [0u32; sets::SETS_SIZE];
+    let mut cells = [0u8; tables::PREDICTIONS_SIZE];
+    match open_grammar(image, &mut rows, &mut sets, &mut cells) {
+        Opening::Fit(head) => call_prepare::prepare_fit(&rows, head, &sets, &cells, tables),
+        Opening::Unfit(reason) => Reply::Refused(reason),
     }
 }
 
@@ -115,9 +125,11 @@ pub fn read_back(image: &[u8], tree: &[u8], output: &mut [u8]) -> Reply
     ensures { λ r. ⌜ ReadOutcome (now (image .entry)) (now (tree .entry)) (now (output .entry)) r (now (output .exit)) ⌝ }
 {
     let mut rows = [0u8; grammar::ROWS_SIZE];
-    match grammar::read_grammar(image, &mut rows) {
-        GrammarRead::Good(head) => call_read_back::read_read(head, &rows, tree, output),
-        GrammarRead::Bad(offset) => Reply::Refused(Reason::BadGrammar(offset as u64)),
+    let mut sets = [0u32; sets::SETS_SIZE];
+    let mut cells = [0u8; tables::PREDICTIONS_SIZE];
+    match open_grammar(image, &mut rows, &mut sets, &mut cells) {
+        Opening::Fit(head) => call_read_back::read_fit(&rows, head, tree, output),
+        Opening::Unfit(reason) => Reply::Refused(reason),
     }
 }
 

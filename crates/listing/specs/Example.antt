@@ -1,24 +1,26 @@
 -- Document 01's example of the program's text: the input `01 00000000 02 07000000 05 00000000`, its tree, and its ten lines, which the program prints and nothing else.
 use Prim.Native.Nat.{ℕ, _*_, _≤_, _<_}
-use mathlib.Core.Path.{_≡_, refl, subst}
+use mathlib.Core.Path.{_≡_, refl, ap, subst, _∙_}
 use mathlib.Core.List.{List, [], _∷_, _++_}
 use lib.ListN.{length}
 use native.Mathlib.Omega.{arith}
 use Rattle.base.specs.Bytes.{leBytes}
 use Rattle.base.specs.Blocks.{zeros, length-zeros}
-use Rattle.base.specs.Choose.{choose, never}
+use Rattle.base.specs.Choose.{choose}
 use Rattle.grammar.specs.Each.{Each}
-use Rattle.grammar.specs.Forest.{Token, Forest, nil, leaf, node, Derives}
+use Rattle.grammar.specs.Forest.{Token, Forest, nil, leaf, node, size, Derives}
 use Rattle.grammar.specs.Reference.{reference, reference-image}
 use Rattle.tables.specs.Tables.{tablesSize, Tables}
 use Rattle.trees.specs.Area.{maxSlots, tagSpace, areaSize, Area}
 use Rattle.plain.specs.Plain as plain
-use Rattle.plain.specs.Tokens.{Sentence, sentence-one, bad-not-sentence}
+use Rattle.plain.specs.Tokens.{Sentence}
+use Rattle.replies.specs.Reply.{noCounts}
 use Rattle.replies.specs.declared.Reply.{Reply}
 use Rattle.replies.specs.declared.Reply.the-variants.{Accepted}
-use Rattle.kindlesap.specs.Judged.{opened-fit}
-use Rattle.kindlesap.specs.Prepare as preparing
-use Rattle.kindlesap.specs.Parse.{workAreas, Sized, parseCounts, Stored, Fits, wrong-tables, wrong-area, short-work, bad-token, wrong-syntax, no-room, stored, sized-one, stored-one, stored-parses, verdict-one}
+use Rattle.order.specs.Order.{Done, accepted as done, require-single, passes}
+use Rattle.order.specs.Single.{area-single, sentence-single, parsed-single, given-fit}
+use Rattle.kindlesap.specs.Prepare.{writes}
+use Rattle.kindlesap.specs.Parse.{workAreas, Sized, parseCounts, Stored, Storage, fits, Fits, stored-one, stored-parses}
 use Rattle.worked.specs.Ready.{reference-prepared}
 use Rattle.listing.specs.Text.{digitsOf, field, nodeRows, firstRow, acceptedText, Parsed, Prints, too-long, refused, accepted}
 use Rattle.listing.specs.Printing.{prints-one}
@@ -87,31 +89,28 @@ grown =
 parses : plain.Parses reference maxSlots exampleTokens (plain.accepted 9)
 parses = stored-parses reference-prepared (omega arith) grown
 
-fits-example : {tables tree b : List ℕ} {room : ℕ} {r : Reply} → Tables reference tables → Sized maxSlots tree → workAreas * length tree ≤ room → Fits tables exampleBytes room tree reference r b
-    → (r ≡ Accepted (parseCounts 9)) × Area maxSlots exampleTree b
-fits-example t z l (wrong-tables n) = absurd (n t)
-fits-example t z l (wrong-area u n) = absurd (n maxSlots z)
-fits-example t z l (short-work u y m) = absurd (omega (arith, l, m))
-fits-example t z l (bad-token u y m k) = absurd (bad-not-sentence k spelt)
-fits-example t z l (wrong-syntax u y m s p) = let e = verdict-one reference-prepared y z s spelt p parses in never (cc)
-fits-example t z l (no-room u y m s p) = let e = verdict-one reference-prepared y z s spelt p parses in never (cc)
-fits-example {b = b} t z l (stored {S = S} {w = w} f u y m s p a) =
-    let eS : S ≡ maxSlots = sized-one y z in
-    let ew : w ≡ exampleTokens = sentence-one s spelt in
-    let q : Stored reference maxSlots exampleTokens f = subst (λ (x : List Token). Stored reference maxSlots x f) ew (subst (λ (x : ℕ). Stored reference x w f) eS p) in
-    let e : f ≡ exampleTree = stored-one reference-prepared q grown in
-    (rw e, subst (λ (x : Forest). Area maxSlots x b) e (subst (λ (x : ℕ). Area x f b) eS a))
+stored-example : {r : Reply} {b : List ℕ} → Done (Storage reference maxSlots exampleTokens) r b → (r ≡ Accepted (parseCounts 9)) × Area maxSlots exampleTree b
+stored-example (done {after = b} x) =
+    let e : x .tree ≡ exampleTree = stored-one reference-prepared (x .stored) grown in
+    (ap Accepted (x .counts ∙ ap (λ f. parseCounts (size f)) e), subst (λ f. Area maxSlots f b) e (x .area))
 
-written : {w' : List ℕ} {r : Reply} → preparing.Writes (zeros tablesSize) reference r w' → Tables reference w'
-written (preparing.wrong-size n) = absurd (n (length-zeros tablesSize))
-written (preparing.written l t) = t
+fits-example : (tables tree b : List ℕ) (room : ℕ) (r : Reply) → Tables reference tables → Sized maxSlots tree → workAreas * length tree ≤ room → Fits tables exampleBytes room tree reference r b
+    → (r ≡ Accepted (parseCounts 9)) × Area maxSlots exampleTree b
+fits-example tables tree b room r t z l h =
+    stored-example (passes (parsed-single reference-prepared) parses (passes sentence-single spelt (passes require-single l (passes area-single z (passes require-single t h)))))
+
+written : {w' : List ℕ} {r : Reply} → Done (λ c w. (c ≡ noCounts) × Tables reference w) r w' → Tables reference w'
+written (done p) = p .1
 
 -- whatever the call leaves, it has accepted the tokens, and the area is the tree's
 pub example-parsed : {r : Reply} {b : List ℕ} → Parsed exampleBytes r b → (r ≡ Accepted (parseCounts 9)) × Area maxSlots exampleTree b
-example-parsed h =
+example-parsed {r} {b} h =
     let n = length-zeros (areaSize maxSlots) in
-    let t = written (opened-fit reference-image reference-prepared (h .prepares)) in
-    fits-example t (record { some = omega arith; few = omega arith; long = n }) (omega (arith, n, length-zeros (workAreas * areaSize maxSlots))) (opened-fit reference-image reference-prepared (h .parses .opened))
+    let tree : List ℕ = zeros (areaSize maxSlots) in
+    let room : ℕ = length (zeros (workAreas * areaSize maxSlots)) in
+    let t = written (passes require-single (length-zeros tablesSize) (given-fit _ (writes (zeros tablesSize)) (zeros tablesSize) (h .told) (h .tables) reference-image reference-prepared (h .prepares))) in
+    fits-example (h .tables) tree b room r t (record { some = omega arith; few = omega arith; long = n }) (omega (arith, n, length-zeros (workAreas * areaSize maxSlots)))
+    (given-fit _ (fits (h .tables) exampleBytes room tree) tree r b reference-image reference-prepared (h .parses .opened))
 
 -- ---- the text
 

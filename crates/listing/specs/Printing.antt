@@ -6,9 +6,8 @@ use lib.ListN.{length, take}
 use native.Mathlib.Omega.{arith}
 use Rattle.base.specs.Choose.{never}
 use Rattle.base.specs.Blocks.{zeros, length-zeros}
-use Rattle.grammar.specs.Grammar.{Grammar}
-use Rattle.grammar.specs.Reference.{referenceImage}
-use Rattle.grammar.specs.Forest.{Forest, size}
+use Rattle.grammar.specs.Reference.{reference, referenceImage, reference-image}
+use Rattle.grammar.specs.Forest.{Token, Forest, size}
 use Rattle.tables.specs.Tables.{tablesSize}
 use Rattle.trees.specs.Area.{maxSlots, areaSize, slots, Area}
 use Rattle.replies.specs.Reply.{numberOf, placeOf, expectedOf, countsOf}
@@ -16,9 +15,11 @@ use Rattle.replies.specs.declared.Counts.{Counts}
 use Rattle.replies.specs.declared.Reason.{Reason}
 use Rattle.replies.specs.declared.Reply.{Reply}
 use Rattle.replies.specs.declared.Reply.the-variants.{Accepted, Refused}
-use Rattle.kindlesap.specs.Judged.{Judged, Opened, useless, conflict, fit, bad-image, good-image}
+use Rattle.order.specs.Order.{has-passed, is-accepted}
+use Rattle.order.specs.Single.{given-fit}
 use Rattle.kindlesap.specs.Prepare.{Prepares, prepares-one}
-use Rattle.kindlesap.specs.Parse.{workAreas, upFrom, parseCounts, Fits, ParseOutcome, parse-one, wrong-tables, wrong-area, short-work, bad-token, wrong-syntax, no-room, stored}
+use Rattle.kindlesap.specs.Parse.{workAreas, upFrom, parseCounts, Storage, fits, ParseOutcome, parse-one}
+use Rattle.worked.specs.Ready.{reference-prepared}
 use Rattle.listing.specs.Text.{maxInput, refusedText, acceptedText, Parsed, Prints, too-long, refused, accepted}
 use Rattle.listing.specs.Writing.{Written, written-whole}
 use Rattle.listing.specs.Rows.{areaText, accepted-text}
@@ -34,27 +35,19 @@ pub data Left (b : List ℕ) : Reply → Type 0 where
   tree : (f : Forest) → size f ≤ maxSlots → Area maxSlots f b → slots f ≡ upFrom 1 (size f) → Left b (Accepted (parseCounts (size f)))
 
 pub parsed-left : {tokens b : List ℕ} {r : Reply} → Parsed tokens r b → Left b r
-parsed-left {tokens} h = opened refl (h .parses .opened)
+parsed-left {tokens} {b} {r} h = go r refl
   where
-    fitted : {tables w b : List ℕ} {room : ℕ} {r : Reply} {G : Grammar} → w ≡ zeros (areaSize maxSlots) → Fits tables tokens room w G r b → Left b r
-    fitted e (wrong-tables n) = nothing _
-    fitted e (wrong-area t n) = nothing _
-    fitted e (short-work t z l) = nothing _
-    fitted e (bad-token t z l k) = nothing _
-    fitted e (wrong-syntax t z l s p) = nothing _
-    fitted e (no-room t z l s p) = nothing _
-    fitted {b = b} e (stored {S = S} f t z l s p a) =
-        let q : S ≡ maxSlots = omega (arith, z .long, ap length e, length-zeros (areaSize maxSlots)) in
-        tree f (omega (arith, p .fits)) (subst (λ (k : ℕ). Area k f b) q a) (p .order)
+    left : {S : ℕ} {w : List Token} (c : Counts) → S ≡ maxSlots → Storage reference S w c b → Left b (Accepted c)
+    left c e x =
+        rw (x .counts) (tree (x .tree) (omega (arith, e, x .stored .fits)) (subst (λ (k : ℕ). Area k (x .tree) b) e (x .area)) (x .stored .order))
 
-    judged : {tables w b : List ℕ} {room : ℕ} {r : Reply} {G : Grammar} → w ≡ zeros (areaSize maxSlots) → Judged G (Fits tables tokens room w G) w r b → Left b r
-    judged e (useless k) = nothing _
-    judged e (conflict n k) = nothing _
-    judged e (fit p q) = fitted e q
-
-    opened : {image tables w b : List ℕ} {room : ℕ} {r : Reply} → w ≡ zeros (areaSize maxSlots) → Opened image (Fits tables tokens room w) w r b → Left b r
-    opened e (bad-image k) = nothing _
-    opened e (good-image i j) = judged e j
+    go : (q : Reply) → r ≡ q → Left b q
+    go (Refused x) e = nothing x
+    go (Accepted c) e =
+        let a = given-fit referenceImage (fits (h .tables) tokens (length (zeros (workAreas * areaSize maxSlots))) (zeros (areaSize maxSlots))) (zeros (areaSize maxSlots)) r b reference-image reference-prepared (h .parses .opened) in
+        let o = has-passed e (has-passed e a .2) in
+        let s = has-passed e (has-passed e (o .2) .2) in
+        left c (omega (arith, o .1 .long, length-zeros (areaSize maxSlots))) (is-accepted e (has-passed e (s .2) .2))
 
 pub left-few : {b : List ℕ} {r : Reply} → Left b r → countsOf r .total ≤ maxSlots
 left-few (nothing x) = omega arith
@@ -74,7 +67,7 @@ long-prints l k = rw (written-whole k) (too-long l)
 
 parsed-one : {tokens b b' : List ℕ} {r r' : Reply} → Parsed tokens r b → Parsed tokens r' b' → (r ≡ r') × (b ≡ b')
 parsed-one {tokens} {b} {r = r} h k =
-    let q : h .tables ≡ k .tables = prepares-one (h .prepares) (k .prepares) .1 in
+    let q : h .tables ≡ k .tables = prepares-one _ _ _ _ (h .prepares) (k .prepares) .1 in
     let y = parse-one (subst (λ (u : List ℕ). ParseOutcome referenceImage u tokens (zeros (areaSize maxSlots)) (zeros (workAreas * areaSize maxSlots)) r b (h .work)) q (h .parses)) (k .parses) in
     (y .0, y .1)
 

@@ -1,6 +1,6 @@
 -- Calls of parse with the reference grammar: what an example says of one, and how the plain parse gives it.
 use Prim.Native.Nat.{ℕ, _*_, _≤_}
-use mathlib.Core.Path.{_≡_, refl}
+use mathlib.Core.Path.{_≡_, refl, ap, sym}
 use mathlib.Core.Bool.{Bool, true, _&&_}
 use mathlib.Core.List.{List, [], _∷_}
 use lib.ListN.{length}
@@ -18,8 +18,10 @@ use Rattle.plain.specs.Tokens.{tokenBytes, Sentence}
 use Rattle.replies.specs.declared.Reply.{Reply}
 use Rattle.replies.specs.declared.Reason.the-variants.{Syntax, NoRoom}
 use Rattle.replies.specs.declared.Reply.the-variants.{Accepted, Refused}
-use Rattle.kindlesap.specs.Judged.{fit, good-image}
-use Rattle.kindlesap.specs.Parse.{workAreas, Sized, Stored, Fits, wrong-syntax, no-room, stored, ParseOutcome}
+use Rattle.order.specs.Order.{refused, passed, accepted as done}
+use Rattle.order.specs.Checks.{wrong-syntax, no-room}
+use Rattle.order.specs.Single.{given-passed}
+use Rattle.kindlesap.specs.Parse.{workAreas, Sized, Stored, parseCounts, Storage, fits, Fits, ParseOutcome}
 use Rattle.worked.specs.Ready.{reference-prepared}
 use Rattle.worked.specs.Entries.{referenceTables, reference-tables}
 use Rattle.worked.specs.Match.{both-true}
@@ -89,14 +91,20 @@ given S ks l m e =
 
 module _ {S : ℕ} {ks : List ℕ} (x : Given S ks) where
   answered : {r : Reply} {tree' : List ℕ} → Fits referenceTables (x .tokens) (length (x .work)) (x .tree) reference r tree' → Answers x r tree'
-  answered h = record { opened = good-image reference-image (fit reference-prepared h); cleared = refl }
+  answered {r} {tree'} h =
+      record { opened = given-passed referenceImage (fits referenceTables (x .tokens) (length (x .work)) (x .tree)) (x .tree) r tree' reference-image reference-prepared h; cleared = refl }
 
   pub ends : (v : Verdict) → Parses reference S (x .sentence) v → Ends x v
   ends (accepted n) p =
       let q = stores (x .sized .some) p in
       let b = stored-laid (q .1) (x .spelt .tags) in
-      let h : Answers x (Accepted (record { total = size (q .0); kept = 0; made = size (q .0); «given_up» = 0 })) (b .0) =
-      answered (stored (q .0) reference-tables (x .sized) (x .long) (x .spelt) (q .1) (b .1)) in
-      record { tree = q .0; stored = q .1; bytes = b .0; area = b .1; outcome = rw (q .2) at h }
-  ends (syntax i e) p = answered (wrong-syntax reference-tables (x .sized) (x .long) (x .spelt) p)
-  ends noRoom p = answered (no-room reference-tables (x .sized) (x .long) (x .spelt) p)
+      let d : Storage reference S (x .sentence) (parseCounts n) (b .0) = record { tree = q .0; stored = q .1; counts = ap parseCounts (sym (q .2)); area = b .1 } in
+      record {
+        tree = q .0;
+        stored = q .1;
+        bytes = b .0;
+        area = b .1;
+        outcome = answered (passed reference-tables (passed (x .sized) (passed (x .long) (passed (x .spelt) (passed p (done d))))));
+      }
+  ends (syntax i e) p = answered (passed reference-tables (passed (x .sized) (passed (x .long) (passed (x .spelt) (refused (wrong-syntax p))))))
+  ends noRoom p = answered (passed reference-tables (passed (x .sized) (passed (x .long) (passed (x .spelt) (refused (no-room p))))))

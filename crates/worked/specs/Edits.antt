@@ -27,7 +27,9 @@ use Rattle.sentences.specs.Grounding.{each-take, each-drop, good-linked}
 use Rattle.replies.specs.declared.Reply.{Reply}
 use Rattle.replies.specs.declared.Reason.the-variants.{BeyondTokens, Syntax}
 use Rattle.replies.specs.declared.Reply.the-variants.{Accepted, Refused}
-use Rattle.kindlesap.specs.Judged.{fit, good-image}
+use Rattle.order.specs.Order.{refused, passed, accepted, exactly}
+use Rattle.order.specs.Checks.{wrong-syntax}
+use Rattle.order.specs.Single.{given-passed, valid-sized, valid-holds}
 use Rattle.kindlesap.specs.Parse.{workAreas, upFrom, Stored, stored-one}
 use Rattle.kindlesap.specs.Edit as calls
 use Rattle.worked.specs.Ready.{reference-prepared}
@@ -239,9 +241,13 @@ Found r olds = (w u : List Token) → go (spelled (r .sentence) w) (editOf (r .p
 abbrev pub valid : {S : ℕ} {ks new : List ℕ} (x : Setting S ks new) → Valid reference S (x .tree)
 valid x = record { some = x .some; few = x .few; tree = x .old; derives = x .stored .derives; area = x .area }
 
-replied : {S : ℕ} {ks new : List ℕ} (x : Setting S ks new) {place removed : ℕ} {r : Reply} {tree' : List ℕ}
+replied : {S : ℕ} {ks new : List ℕ} (x : Setting S ks new) (place removed : ℕ) {r : Reply} {tree' : List ℕ}
     → calls.Edits referenceTables (x .tokens) place removed (length (x .work)) (x .tree) reference r tree' → Replies x place removed r tree'
-replied x h = record { opened = good-image reference-image (fit reference-prepared h); cleared = refl }
+replied x place removed {r} {tree'} h =
+    record {
+      opened = given-passed referenceImage (calls.edits referenceTables (x .tokens) place removed (length (x .work)) (x .tree)) (x .tree) r tree' reference-image reference-prepared h;
+      cleared = refl;
+    }
 
 -- the old tree is one that parse leaves
 stored-found : (r : Row) (olds : List Cell) → Found r olds → (w u : List Token) → Stored reference (r .S) (spelled (r .sentence) w) (planted (spelled (r .sentence) w) olds)
@@ -277,7 +283,9 @@ altered-laid {S} {place} {removed} x {N} a =
 
 accepts : {S place removed k m u : ℕ} {ks new : List ℕ} (x : Setting S ks new) (N : Forest) → place + removed ≤ length (yield (x .old)) → Altered reference S (editOf place removed (x .inserted)) (x .old) N k m u
     → (b : List ℕ) → Area S N b → Replies x place removed (Accepted (calls.editCounts (size N) k m u)) b
-accepts x N i a b c = replied x (calls.altered N reference-tables (valid x) (x .long) (x .spelt) i a c)
+accepts {place = place} {removed} x N i a b c =
+    let h = calls.altered-parses (x .some) a in
+    replied x place removed (passed reference-tables (passed (valid-sized (valid x)) (passed (valid-holds (valid x)) (passed (x .long) (passed (x .spelt) (passed i (passed h (accepted (record { new = N; altered = a; total = refl; area = c })))))))))
 
 pub edit-says : (r : Row) (olds : List Cell) → Found r olds → (x : Setting (r .S) (r .sentence) (r .inserted)) → Remade r x
 unfolding facts
@@ -368,10 +376,10 @@ unfolding reference
 syntax-says fuel S place removed i e ks new l h x =
     let w : List Token = edited (editOf place removed (x .inserted)) (yield (x .old)) in
     let p : Parses reference S w (syntax i e) = run-right fuel S (6 ∷ []) w 1 0 (syntax i e) (rw (edited-kinds x place removed) h) in
-    replied x (calls.wrong-syntax reference-tables (valid x) (x .long) (x .spelt) (omega (arith, l, old-length x)) p)
+    replied x place removed (passed reference-tables (passed (valid-sized (valid x)) (passed (valid-holds (valid x)) (passed (x .long) (passed (x .spelt) (passed (omega (arith, l, old-length x)) (refused (wrong-syntax p))))))))
 
 -- place and removed run beyond the tokens
 pub beyond-says : (S place removed : ℕ) (ks new : List ℕ) → length ks < place + removed → (x : Setting S ks new) → Replies x place removed (Refused (BeyondTokens (length ks))) (x .tree)
 beyond-says S place removed ks new l x =
     subst (λ (n : ℕ). Replies x place removed (Refused (BeyondTokens n)) (x .tree)) (old-length x)
-    (replied x (calls.beyond reference-tables (valid x) (x .long) (x .spelt) (omega (arith, l, old-length x))))
+    (replied x place removed (passed reference-tables (passed (valid-sized (valid x)) (passed (valid-holds (valid x)) (passed (x .long) (passed (x .spelt) (refused (exactly (λ m. omega (arith, l, m, old-length x))))))))))

@@ -8,12 +8,12 @@ use Rattle.base.specs.Choose.{choose, never}
 use Rattle.base.specs.Bytes.{leBytes}
 use Rattle.base.specs.Blocks.{zeros, byte-zeros, length-zeros}
 use Rattle.grammar.specs.Each.{Each}
-use Rattle.grammar.specs.Grammar.{Grammar, TerminalOf}
+use Rattle.grammar.specs.Grammar.{TerminalOf}
 use Rattle.grammar.specs.Forest.{Token, kinds, Forest, size, yield}
 use Rattle.grammar.specs.Image.{bad-head}
 use Rattle.grammar.specs.Images.{bad-one}
 use Rattle.grammar.specs.Reference.{reference, referenceImage, reference-image}
-use Rattle.tables.specs.Tables.{tablesSize}
+use Rattle.tables.specs.Tables.{tablesSize, Tables}
 use Rattle.trees.specs.Area.{areaSize, top, Area, Valid}
 use Rattle.trees.specs.Nodes.{preorder}
 use Rattle.plain.specs.Plain.{accepted, syntax}
@@ -28,10 +28,11 @@ use Rattle.replies.specs.declared.Reply.{Reply}
 use Rattle.replies.specs.declared.Reason.{Reason}
 use Rattle.replies.specs.declared.Reason.the-variants.{BadGrammar, Syntax, ShortOutput}
 use Rattle.replies.specs.declared.Reply.the-variants.{Accepted, Refused}
-use Rattle.kindlesap.specs.Judged.{Opened, fit, bad-image, good-image, opened-fit}
-use Rattle.kindlesap.specs.Prepare.{Writes, wrong-size, written, Prepares}
+use Rattle.order.specs.Order.{Done, accepted as done, refused, passed, exactly, at, require-single, passes}
+use Rattle.order.specs.Single.{valid-sized, valid-holds, given-fit, given-passed}
+use Rattle.kindlesap.specs.Prepare.{writes, Prepares}
 use Rattle.kindlesap.specs.Parse.{workAreas, parseCounts, Stored, ParseOutcome, stored-parses, parse-one}
-use Rattle.kindlesap.specs.ReadBack.{readCounts, needed, short-output, returned, ReadOutcome, trees-one, read-one}
+use Rattle.kindlesap.specs.ReadBack.{readCounts, needed, returns, ReadOutcome, trees-one, read-one}
 use Rattle.kindlesap.specs.Edit as calls
 use Rattle.kindlesap.specs.Edited.{edit-renews}
 use Rattle.worked.specs.Ready.{below, reference-prepared, cells}
@@ -43,24 +44,19 @@ use Rattle.worked.specs.Calls.{Given, spoken, ends}
 use Rattle.worked.specs.Edits.{Cell, kept, made, cellsOf, Row, Setting, Remade, spelled, noded, planted, facts, valid, old-length}
 use Rattle.worked.specs.Examples.{edit, Says, kindsU, kindsV, treeU, exampleH, row-says, exampleH-holds, exampleJ-holds, run-says}
 
--- the reference image passes replies 1 to 3
-opened-reference : {Q : Grammar → Reply → List ℕ → Type 0} {w w' : List ℕ} {r : Reply} → Opened referenceImage Q w r w' → Q reference r w'
-opened-reference = opened-fit reference-image reference-prepared
-
 -- ---- prepare
-
-written-reference : {w w' : List ℕ} {r : Reply} → length w ≡ tablesSize → Writes w reference r w' → r ≡ Accepted noCounts
-written-reference l (wrong-size n) = absurd (n l)
-written-reference l (written m t) = refl
 
 -- the reference grammar is accepted, into tables of the right length
 pub reference-accepted : (w w' : List ℕ) (r : Reply) → length w ≡ tablesSize → Prepares referenceImage w r w' → r ≡ Accepted noCounts
-reference-accepted w w' r l h = written-reference l (opened-reference h)
+reference-accepted w w' r l h = go (passes require-single l (given-fit referenceImage (writes w) w r w' reference-image reference-prepared h))
+  where
+    go : {r : Reply} {w' : List ℕ} → Done (λ c t. (c ≡ noCounts) × Tables reference t) r w' → r ≡ Accepted noCounts
+    go (done p) = ap Accepted (p .0)
 
 -- an empty image is refused
 pub empty-refused : (w w' : List ℕ) (r : Reply) → Prepares [] w r w' → r ≡ Refused (BadGrammar 0)
-empty-refused w w' r (bad-image b) = ap (λ (k : ℕ). Refused (BadGrammar k)) (bad-one b (bad-head (λ h. never (let e = h .5 in cc))))
-empty-refused w w' r (good-image i j) = never (let e = i .is in cc)
+empty-refused w w' r (refused (at b)) = ap (λ (k : ℕ). Refused (BadGrammar k)) (bad-one b (bad-head (λ h. never (let e = h .5 in cc))))
+empty-refused w w' r (passed i j) = never (let e = i .is in cc)
 
 -- no program refuses everything
 pub prepare-not-refused : (w w' : List ℕ) (x : Reason) → length w ≡ tablesSize → Prepares referenceImage w (Refused x) w' → ⊥
@@ -252,14 +248,14 @@ module _ (x : Setting 1000 kindsV []) {output output' : List ℕ} {r : Reply} wh
   pub read-accepted : 30 ≤ length output → ReadOutcome referenceImage (x .tree) output r output' → (r ≡ Accepted (readCounts 17)) × (output' ≡ tokenBytes (x .sentence) ++ drop 30 output)
   read-accepted l h =
       let n : needed (x .old) ≡ 30 = omega (arith, old-length x) in
-      let q = read-one h (good-image reference-image (fit reference-prepared (returned (valid x) (omega (arith, n, l))))) in
+      let q = read-one _ _ _ _ h (given-passed referenceImage (returns (x .tree) output) output _ _ reference-image reference-prepared (passed (valid-sized (valid x)) (passed (valid-holds (valid x)) (passed (omega (arith, n, l)) (done (refl, refl)))))) in
       (q .0 ∙ ap (λ (k : ℕ). Accepted (readCounts k)) (nodes-seventeen x), q .1 ∙ rw (n, x .stored .yields))
 
   -- a shorter one is refused, and told the length
   pub read-short : length output < 30 → ReadOutcome referenceImage (x .tree) output r output' → r ≡ Refused (ShortOutput 30)
   read-short l h =
       let n : needed (x .old) ≡ 30 = omega (arith, old-length x) in
-      read-one h (good-image reference-image (fit reference-prepared (short-output (valid x) (omega (arith, n, l))))) .0 ∙ ap (λ (k : ℕ). Refused (ShortOutput k)) n
+      read-one _ _ _ _ h (given-passed referenceImage (returns (x .tree) output) output _ _ reference-image reference-prepared (passed (valid-sized (valid x)) (passed (valid-holds (valid x)) (refused (exactly (λ m. omega (arith, n, l, m))))))) .0 ∙ ap (λ (k : ℕ). Refused (ShortOutput k)) n
 
 -- no program refuses everything
 pub read-not-refused : (output output' : List ℕ) (y : Reason) → 30 ≤ length output → ReadOutcome referenceImage (settingV .tree) output (Refused y) output' → ⊥

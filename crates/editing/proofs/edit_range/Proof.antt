@@ -1,6 +1,7 @@
 use borrow.Author.Needs.{needs}
 use Rattle.editing.proofs.edit_range.Statement.{statement}
 use Rattle.editing.proofs.edit_range.Tie as tie
+use Rattle.grammar.specs.Rows.{grammarIn}
 use Rattle.altering.specs.Treed.{treed-few}
 use Rattle.editing.specs.Editing.{edits-beyond, edits-syntax, edits-no-room, edits-altered, few-fit}
 
@@ -14,7 +15,8 @@ same-length : tie.Need-same-length
 same-length c = search needs
 
 returns : tie.Need-returns
-returns c = edits-beyond _ _ _ _ _ _ _ _ _ _ _ (c .before .before .before .before .before .before .before .before .pre .1) _ (c .before .before .before .before .before .before .before .before .pre .2 .valid) (c .before .before .before .before .before .before .before .before .pre .4) (c .before .before .before .before .before .before .before .before .args .m) (c .before .before .before .before .before .before .before .before .pre .3 .sentence) _ (c .before .get16 .ensures .0) (search needs)
+unfolding grammarIn
+returns c = edits-beyond _ _ _ _ _ _ _ (c .before .before .before .before .before .before .before .before .pre .1) _ (c .before .before .before .before .before .before .before .before .pre .2 .valid) (c .before .before .before .before .before .before .before .before .pre .4) _ (c .before .before .before .before .before .before .before .before .pre .3 .sentence) _ (c .before .get16 .ensures .0) (search needs)
 
 alter-requires : tie.Need-alter-requires
 alter-requires c κs = (c .before .before .before .before .before .before .before .before .before .before .pre .0, c .before .before .before .before .before .before .before .before .before .before .pre .1, c .before .before .before .before .before .before .before .before .before .before .pre .2, c .before .before .before .before .before .before .before .before .before .before .pre .3 .sentence, search needs, c .before .before .before .before .before .before .before .before .before .before .pre .4)
@@ -38,7 +40,8 @@ same-length-3 : tie.Need-same-length-3
 same-length-3 c = search needs
 
 returns-2 : tie.Need-returns-2
-returns-2 c = edits-altered _ _ _ _ _ _ _ _ _ _ _ (c .before .before .before .before .before .before .before .before .before .before .before .before .before .before .before .before .before .before .before .pre .1) _ (c .before .before .before .before .before .before .before .before .before .before .before .before .before .before .before .before .before .before .before .pre .2 .valid) (c .before .before .before .before .before .before .before .before .before .before .before .before .before .before .before .before .before .before .before .pre .4) (c .before .before .before .before .before .before .before .before .before .before .before .before .before .before .before .before .before .before .before .args .m) (c .before .before .before .before .before .before .before .before .before .before .before .before .before .before .before .before .before .before .before .pre .3 .sentence) _ (c .before .before .before .before .before .before .before .before .before .before .before .before .get16 .ensures .0) (search needs) (c .before .before .before .before .before .before .before .before .alter .ensures .0) _ _ _ _ (c .before .before .before .before .before .before .before .before .before .before .before .before .before .before .before .before .before .before .before .pre .2 .count) (search needs) (c .accepted .ensures)
+unfolding grammarIn
+returns-2 c = edits-altered _ _ _ _ _ _ _ (c .before .before .before .before .before .before .before .before .before .before .before .before .before .before .before .before .before .before .before .pre .1) _ (c .before .before .before .before .before .before .before .before .before .before .before .before .before .before .before .before .before .before .before .pre .2 .valid) (c .before .before .before .before .before .before .before .before .before .before .before .before .before .before .before .before .before .before .before .pre .4) _ (c .before .before .before .before .before .before .before .before .before .before .before .before .before .before .before .before .before .before .before .pre .3 .sentence) _ (c .before .before .before .before .before .before .before .before .before .before .before .before .get16 .ensures .0) (search needs) (c .before .before .before .before .before .before .before .before .alter .ensures .0) _ _ _ _ (c .before .before .before .before .before .before .before .before .before .before .before .before .before .before .before .before .before .before .before .pre .2 .count) (search needs) (c .accepted .ensures)
 
 same-length-4 : tie.Need-same-length-4
 same-length-4 c = search needs
@@ -47,7 +50,8 @@ same-length-5 : tie.Need-same-length-5
 same-length-5 c = search needs
 
 returns-3 : tie.Need-returns-3
-returns-3 c = edits-syntax _ _ _ _ _ _ _ _ _ _ _ (c .before .before .before .before .before .before .before .before .before .before .before .before .before .before .before .before .before .before .pre .1) _ (c .before .before .before .before .before .before .before .before .before .before .before .before .before .before .before .before .before .before .pre .2 .valid) (c .before .before .before .before .before .before .before .before .before .before .before .before .before .before .before .before .before .before .pre .4) (c .before .before .before .before .before .before .before .before .before .before .before .before .before .before .before .before .before .before .args .m) (c .before .before .before .before .before .before .before .before .before .before .before .before .before .before .before .before .before .before .pre .3 .sentence) _ (c .before .before .before .before .before .before .before .before .before .before .before .get16 .ensures .0) (search needs) (c .before .before .before .before .before .before .before .alter .ensures .0) _ _ (search needs)
+unfolding grammarIn
+returns-3 c = edits-syntax _ _ _ _ _ _ _ (c .before .before .before .before .before .before .before .before .before .before .before .before .before .before .before .before .before .before .pre .1) _ (c .before .before .before .before .before .before .before .before .before .before .before .before .before .before .before .before .before .before .pre .2 .valid) (c .before .before .before .before .before .before .before .before .before .before .before .before .before .before .before .before .before .before .pre .4) _ (c .before .before .before .before .before .before .before .before .before .before .before .before .before .before .before .before .before .before .pre .3 .sentence) _ (c .before .before .before .before .before .before .before .before .before .before .before .get16 .ensures .0) (search needs) (c .before .before .before .before .before .before .before .alter .ensures .0) _ _ (search needs)
 
 same-length-6 : tie.Need-same-length-6
 same-length-6 c = search needs
@@ -56,7 +60,8 @@ same-length-7 : tie.Need-same-length-7
 same-length-7 c = search needs
 
 returns-4 : tie.Need-returns-4
-returns-4 c = edits-no-room _ _ _ _ _ _ _ _ _ _ _ (c .before .before .before .before .before .before .before .before .before .before .before .before .before .before .before .before .before .pre .1) _ (c .before .before .before .before .before .before .before .before .before .before .before .before .before .before .before .before .before .pre .2 .valid) (c .before .before .before .before .before .before .before .before .before .before .before .before .before .before .before .before .before .pre .4) (c .before .before .before .before .before .before .before .before .before .before .before .before .before .before .before .before .before .args .m) (c .before .before .before .before .before .before .before .before .before .before .before .before .before .before .before .before .before .pre .3 .sentence) _ (c .before .before .before .before .before .before .before .before .before .before .get16 .ensures .0) (search needs) (c .before .before .before .before .before .before .alter .ensures .0) (search needs)
+unfolding grammarIn
+returns-4 c = edits-no-room _ _ _ _ _ _ _ (c .before .before .before .before .before .before .before .before .before .before .before .before .before .before .before .before .before .pre .1) _ (c .before .before .before .before .before .before .before .before .before .before .before .before .before .before .before .before .before .pre .2 .valid) (c .before .before .before .before .before .before .before .before .before .before .before .before .before .before .before .before .before .pre .4) _ (c .before .before .before .before .before .before .before .before .before .before .before .before .before .before .before .before .before .pre .3 .sentence) _ (c .before .before .before .before .before .before .before .before .before .before .get16 .ensures .0) (search needs) (c .before .before .before .before .before .before .alter .ensures .0) (search needs)
 
 pub edit-range-spec : {M : Type 1} → statement M
 edit-range-spec =

@@ -1,7 +1,8 @@
 use borrow.Author.Needs.{needs}
 use Rattle.editing.proofs.edit_tokens.Statement.{statement}
 use Rattle.editing.proofs.edit_tokens.Tie as tie
-use Rattle.plain.specs.Outcome.{is-good}
+use Rattle.grammar.specs.Rows.{grammarIn}
+use Rattle.plain.specs.Outcome.{is-good, is-bad}
 use Rattle.editing.specs.Editing.{edits-token}
 
 read-tokens-requires : tie.Need-read-tokens-requires
@@ -26,7 +27,8 @@ returns : tie.Need-returns
 returns c = search needs
 
 returns-2 : tie.Need-returns-2
-returns-2 c = edits-token _ _ _ _ _ _ _ _ _ _ _ (c .before .before .before .before .before .before .before .before .before .pre .1) _ (c .before .before .before .before .before .before .before .before .before .pre .2 .valid) (c .before .before .before .before .before .before .before .before .before .pre .3) _ (c .before .before .before .read-tokens .ensures) (search needs)
+unfolding grammarIn
+returns-2 c = edits-token _ _ _ _ _ _ _ (c .before .before .before .before .before .before .before .before .before .pre .1) _ (c .before .before .before .before .before .before .before .before .before .pre .2 .valid) (c .before .before .before .before .before .before .before .before .before .pre .3) _ (is-bad _ (c .before .before .before .read-tokens .ensures) (search needs))
 
 pub edit-tokens-spec : {M : Type 1} → statement M
 edit-tokens-spec =

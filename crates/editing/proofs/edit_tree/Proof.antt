@@ -8,19 +8,19 @@ mul-need : tie.Need-mul-need
 mul-need c = search needs
 
 is-tree-requires : tie.Need-is-tree-requires
-is-tree-requires c κs = (c .before .before .before .before .before .before .before .pre .2, c .before .before .before .before .before .before .before .pre .3, c .before .before .before .before .before .before .before .pre .4, start-small _ _ _ _ _ (c .before .before .before .before .before .before .before .pre .0 .formed))
+is-tree-requires c κs = (c .before .before .before .before .before .before .before .pre .2, start-small _ _ _ _ _ (c .before .before .before .before .before .before .before .pre .0 .formed))
 
 same-length : tie.Need-same-length
 same-length c = search needs
 
 returns : tie.Need-returns
-returns c = edits-short _ _ _ _ _ _ _ _ _ _ _ (c .before .before .before .before .before .before .before .before .before .pre .1) _ (c .before .is-tree .ensures .yes (search needs)) _ (search needs) (search needs)
+returns c = edits-short _ _ _ _ _ _ _ (c .before .before .before .before .before .before .before .before .before .pre .1) _ (c .before .is-tree .ensures .yes (search needs)) _ (search needs) (search needs)
 
 same-length-2 : tie.Need-same-length-2
 same-length-2 c = search needs
 
 returns-2 : tie.Need-returns-2
-returns-2 c = edits-none _ _ _ _ _ _ _ _ _ _ _ (c .before .before .before .before .before .before .before .before .before .pre .1) _ (c .before .before .before .before .before .before .before .before .before .pre .4) (c .before .is-tree .ensures .no (search needs))
+returns-2 c = edits-none _ _ _ _ _ _ _ (c .before .before .before .before .before .before .before .before .before .pre .1) _ (c .before .before .before .before .before .before .before .before .before .pre .2) (c .before .is-tree .ensures .no (search needs))
 
 edit-walked-requires : tie.Need-edit-walked-requires
 edit-walked-requires c κs = search needs

@@ -6,7 +6,7 @@ use Rattle.altering.specs.Treed.{treed, untreed}
 use Rattle.editing.specs.Editing.{edits-room, edits-none}
 
 read-tree-requires : tie.Need-read-tree-requires
-read-tree-requires c κs = (c .before .before .before .before .before .before .before .pre .2, c .before .before .before .before .before .before .before .pre .3, c .before .before .before .before .before .before .before .pre .4, search needs, start-small _ _ _ _ _ (c .before .before .before .before .before .before .before .pre .0 .formed))
+read-tree-requires c κs = let z = c .before .before .before .before .before .before .before .pre .2 in (z .some, z .few, z .long, search needs, start-small _ _ _ _ _ (c .before .before .before .before .before .before .before .pre .0 .formed))
 
 enum-known-o : tie.Need-enum-known-o
 enum-known-o c = search needs
@@ -33,7 +33,7 @@ same-length-4 : tie.Need-same-length-4
 same-length-4 c = search needs
 
 returns-2 : tie.Need-returns-2
-returns-2 c = edits-none _ _ _ _ _ _ _ _ _ _ _ (c .before .before .before .before .before .before .before .before .before .before .before .before .pre .1) _ (c .before .before .before .before .before .before .before .before .before .before .before .before .pre .4) (untreed (c .before .before .before .before .read-tree .ensures) (search needs))
+returns-2 c = edits-none _ _ _ _ _ _ _ (c .before .before .before .before .before .before .before .before .before .before .before .before .pre .1) _ (c .before .before .before .before .before .before .before .before .before .before .before .before .pre .2) (untreed (c .before .before .before .before .read-tree .ensures) (search needs))
 
 pub edit-walked-spec : {M : Type 1} → statement M
 edit-walked-spec =

@@ -1,25 +1,25 @@
 use Rattle.base.specs.Blocks.{length-zeros}
 use mathlib.Core.Path.{ap, _∙_}
 use lib.ListN.{length}
-use Rattle.kindlesap.specs.Judging.{bounds, have-rows, found-useless, found-conflict, found-fit}
+use Rattle.kindlesap.specs.Opening.{bounds, have-rows, judges-useless, judges-conflict, judges-fit}
 use borrow.Author.Needs.{needs}
 use Rattle.kindlesap.proofs.judge.Statement.{statement}
 use Rattle.kindlesap.proofs.judge.Tie as tie
 
 analyse-requires : tie.Need-analyse-requires
-analyse-requires c κs = let h = bounds _ _ _ _ _ (c .before .before .before .before .pre .0) in search needs
+analyse-requires c κs = let h = bounds _ _ (c .before .before .before .before .pre .0) in search needs
 
 useless-requires : tie.Need-useless-requires
-useless-requires c κs = let h = bounds _ _ _ _ _ (c .before .before .before .before .before .before .before .before .pre .0) in search needs
+useless-requires c κs = let h = bounds _ _ (c .before .before .before .before .before .before .before .before .pre .0) in search needs
 
 same-length : tie.Need-same-length
 same-length c = search needs
 
 returns : tie.Need-returns
-returns c = found-useless _ _ _ _ _ (c .before .before .before .before .before .before .before .before .before .before .pre .0) _ (c .before .before .before .before .before .analyse .ensures) _ _ (c .before .useless .ensures) (c .if1 .taken)
+returns c = judges-useless _ _ (c .before .before .before .before .before .before .before .before .before .before .pre .0) _ (c .before .before .before .before .before .analyse .ensures) _ _ (c .before .useless .ensures) (c .if1 .taken)
 
 predict-requires : tie.Need-predict-requires
-predict-requires c κs = let h = bounds _ _ _ _ _ (c .before .before .before .before .before .before .before .before .before .before .before .before .pre .0) in let l = ap length (c .before .before .before .before .before .before .before .before .before .before .before .before .pre .2) ∙ length-zeros _ in (search needs, search needs, search needs, search needs, search needs, have-rows _ _ _ _ _ (c .before .before .before .before .before .before .before .before .before .before .before .before .pre .0) _ (c .before .before .before .before .before .before .before .analyse .ensures))
+predict-requires c κs = let h = bounds _ _ (c .before .before .before .before .before .before .before .before .before .before .before .before .pre .0) in let l = ap length (c .before .before .before .before .before .before .before .before .before .before .before .before .pre .2) ∙ length-zeros _ in (search needs, search needs, search needs, search needs, search needs, have-rows _ _ (c .before .before .before .before .before .before .before .before .before .before .before .before .pre .0) _ (c .before .before .before .before .before .before .before .analyse .ensures))
 
 same-length-2 : tie.Need-same-length-2
 same-length-2 c = search needs
@@ -28,7 +28,7 @@ same-length-3 : tie.Need-same-length-3
 same-length-3 c = search needs
 
 returns-2 : tie.Need-returns-2
-returns-2 c = found-conflict _ _ _ _ _ (c .before .before .before .before .before .before .before .before .before .before .before .before .before .before .before .before .pre .0) _ (c .before .before .before .before .before .before .before .before .before .before .before .analyse .ensures) _ (c .before .before .before .before .before .before .before .useless .ensures) (c .before .before .before .before .before .before .if1 .left) _ _ (c .before .before .before .predict .ensures) (c .if2 .taken)
+returns-2 c = judges-conflict _ _ (c .before .before .before .before .before .before .before .before .before .before .before .before .before .before .before .before .pre .0) _ (c .before .before .before .before .before .before .before .before .before .before .before .analyse .ensures) _ (c .before .before .before .before .before .before .before .useless .ensures) (c .before .before .before .before .before .before .if1 .left) _ _ (c .before .before .before .predict .ensures) (c .if2 .taken)
 
 same-length-4 : tie.Need-same-length-4
 same-length-4 c = search needs
@@ -37,7 +37,7 @@ same-length-5 : tie.Need-same-length-5
 same-length-5 c = search needs
 
 returns-3 : tie.Need-returns-3
-returns-3 c = found-fit _ _ _ _ _ (c .before .before .before .before .before .before .before .before .before .before .before .before .before .before .before .before .pre .0) _ (c .before .before .before .before .before .before .before .before .before .before .before .analyse .ensures) _ (c .before .before .before .before .before .before .before .useless .ensures) (c .before .before .before .before .before .before .if1 .left) _ _ (c .before .before .before .predict .ensures) (c .if2 .left)
+returns-3 c = judges-fit _ _ (c .before .before .before .before .before .before .before .before .before .before .before .before .before .before .before .before .pre .0) _ (c .before .before .before .before .before .before .before .before .before .before .before .analyse .ensures) _ (c .before .before .before .before .before .before .before .useless .ensures) (c .before .before .before .before .before .before .if1 .left) _ _ (c .before .before .before .predict .ensures) (c .if2 .left)
 
 pub judge-spec : {M : Type 1} → statement M
 judge-spec =

@@ -1,16 +1,17 @@
 use borrow.Author.Needs.{needs}
 use Rattle.kindlesap.proofs.call_edit.edit_area.Statement.{statement}
 use Rattle.kindlesap.proofs.call_edit.edit_area.Tie as tie
-use Rattle.kindlesap.specs.Editing.{edits-wrong}
+use Rattle.order.specs.Order.{refused, passed}
+use Rattle.kindlesap.specs.Storing.{sized-of, area-wrong}
 
 slots-of-requires : tie.Need-slots-of-requires
 slots-of-requires c κs = search needs
 
 returns : tie.Need-returns
-returns c = edits-wrong _ _ _ _ _ _ _ (c .before .before .before .before .before .before .before .pre .1) _ _ (search needs) (c .before .slots-of .ensures) (c .if1 .taken)
+returns c = passed (c .before .before .before .before .before .before .before .pre .1) (refused (area-wrong (c .before .slots-of .ensures) (c .if1 .taken) (search needs)))
 
 edit-tree-requires : tie.Need-edit-tree-requires
-edit-tree-requires c κs = let z = c .before .before .before .slots-of .ensures .right (c .before .before .if1 .left) in (c .before .before .before .before .before .before .before .before .before .pre .0, c .before .before .before .before .before .before .before .before .before .pre .1, z .0, z .1, z .2)
+edit-tree-requires c κs = (c .before .before .before .before .before .before .before .before .before .pre .0, c .before .before .before .before .before .before .before .before .before .pre .1, sized-of (c .before .before .before .slots-of .ensures) (c .before .before .if1 .left) (search needs))
 
 same-length : tie.Need-same-length
 same-length c = search needs

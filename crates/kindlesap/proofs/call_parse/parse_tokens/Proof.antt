@@ -1,5 +1,6 @@
 use Rattle.kindlesap.specs.Storing.{room-for, fits-room, fits-syntax, fits-no-room}
 use Rattle.plain.specs.Outcome.{is-done}
+use Rattle.grammar.specs.Rows.{grammarIn}
 use borrow.Author.Needs.{needs}
 use Rattle.kindlesap.proofs.call_parse.parse_tokens.Statement.{statement}
 use Rattle.kindlesap.proofs.call_parse.parse_tokens.Tie as tie
@@ -32,13 +33,15 @@ same-length-3 : tie.Need-same-length-3
 same-length-3 c = search needs
 
 returns-2 : tie.Need-returns-2
-returns-2 c = fits-syntax _ _ _ _ _ _ _ _ _ (c .before .before .before .before .before .before .before .before .before .before .before .before .pre .0 .tables) _ (c .before .before .before .before .before .before .before .before .before .before .before .before .pre .1) (c .before .before .before .before .before .before .before .before .before .before .before .before .pre .2) (c .before .before .before .before .before .before .before .before .before .before .before .before .pre .3) _ _ (c .before .before .before .before .before .parse-lent .ensures) (search needs)
+unfolding grammarIn
+returns-2 c = let y = c .before .before .before .before .before .before .before .before .before .before .before .before .pre in fits-syntax (y .0 .tables) (y .1) (y .2) (y .3) (c .before .before .before .before .before .parse-lent .ensures) _ _ (search needs)
 
 same-length-4 : tie.Need-same-length-4
 same-length-4 c = search needs
 
 returns-3 : tie.Need-returns-3
-returns-3 c = fits-no-room _ _ _ _ _ _ _ _ _ (c .before .before .before .before .before .before .before .before .before .before .before .pre .0 .tables) _ (c .before .before .before .before .before .before .before .before .before .before .before .pre .1) (c .before .before .before .before .before .before .before .before .before .before .before .pre .2) (c .before .before .before .before .before .before .before .before .before .before .before .pre .3) (c .before .before .before .before .parse-lent .ensures) (search needs)
+unfolding grammarIn
+returns-3 c = let y = c .before .before .before .before .before .before .before .before .before .before .before .pre in fits-no-room (y .0 .tables) (y .1) (y .2) (y .3) (c .before .before .before .before .parse-lent .ensures) (search needs)
 
 pub parse-tokens-spec : {M : Type 1} → statement M
 parse-tokens-spec =

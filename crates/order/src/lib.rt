@@ -1,0 +1,1 @@
+// The order in which calls try their replies; there is no code.
