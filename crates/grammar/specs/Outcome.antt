@@ -11,14 +11,9 @@ use Rattle.grammar.specs.Limits.{maxProductions, prefixSize}
 use Rattle.grammar.specs.Grammar.{Grammar}
 use Rattle.grammar.specs.Image.{imageOf, Image, HeadFirst, Bad, bad-head}
 use Rattle.grammar.specs.Images.{image-one, good-not-bad, bad-one}
-use Rattle.grammar.specs.Rows.{rowsSize, rowsOf}
+use Rattle.grammar.specs.Rows.{rowsSize, rowsOf, headOf}
 use Rattle.grammar.specs.Reading.{Reading, readSoFar, reading-rows, reading-full, reading-bad, Starts}
-use Rattle.grammar.specs.declared.Head.{Head}
 use Rattle.grammar.specs.declared.GrammarRead.{GrammarRead}
-
--- a grammar's head
-abbrev pub headOf : Grammar → Head
-headOf G = record { t = G .t; n = G .n; start = G .start; count = length (G .productions) }
 
 -- the answer and the rows: the image's grammar, or the offset of the first bad record and zeros
 pub data Reads (bytes : List ℕ) : GrammarRead → List ℕ → Type 0 where

@@ -7,8 +7,8 @@ use Rattle.base.specs.Choose.{choose}
 use Rattle.grammar.specs.Grammar.{Grammar, WellFormed}
 use Rattle.grammar.specs.Formed.{and, within, every, allowed, formed-by}
 use Rattle.grammar.specs.Image.{Image}
-use Rattle.grammar.specs.Outcome.{headOf, Reads, reads-good, reads-one}
-use Rattle.grammar.specs.Rows.{rowsOf}
+use Rattle.grammar.specs.Outcome.{Reads, reads-good, reads-one}
+use Rattle.grammar.specs.Rows.{rowsOf, headOf}
 use Rattle.grammar.specs.declared.GrammarRead.{GrammarRead}
 
 -- "Terminals: 1 allow, 2 host, 3 comma, 4 except, 5 semicolon; nonterminals 6 Book, 7 Rule, 8 List, 9 Rest, 10 Bar; start 6"

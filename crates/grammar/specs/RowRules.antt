@@ -7,6 +7,7 @@ use native.Mathlib.Omega.{arith}
 use Rattle.base.specs.Choose.{never}
 use Rattle.grammar.specs.Grammar.{Production, numbered, Rule}
 use Rattle.grammar.specs.Rows.{leftAt, lengthAt, symbolsFrom, productionAt, productionsFrom, grammarIn}
+use Rattle.grammar.specs.declared.Head.{Head}
 
 -- the body of the production in row p
 abbrev pub bodyAt : List ℕ → ℕ → List ℕ
@@ -38,15 +39,15 @@ pub record RowOf (rows : List ℕ) (count p M : ℕ) (γ : List ℕ) : Type 0 wh
   pub left : M ≡ leftAt rows row
   pub body : γ ≡ bodyAt rows row
 
-module _ (rows : List ℕ) (t n s count : ℕ) where
-  pub rule-at : (p : ℕ) → p < count → Rule (grammarIn rows t n s count) (suc p) (leftAt rows p) (bodyAt rows p)
+module _ (rows : List ℕ) (head : Head) where
+  pub rule-at : (p : ℕ) → p < head .count → Rule (grammarIn rows head) (suc p) (leftAt rows p) (bodyAt rows p)
   unfolding grammarIn
-  rule-at p l = let z : 0 + p ≡ p = omega arith in record { found = rw z at (numbered-from rows count 0 p l) }
+  rule-at p l = let z : 0 + p ≡ p = omega arith in record { found = rw z at (numbered-from rows (head .count) 0 p l) }
 
-  pub rule-row : {p M : ℕ} {γ : List ℕ} → Rule (grammarIn rows t n s count) p M γ → RowOf rows count p M γ
+  pub rule-row : {p M : ℕ} {γ : List ℕ} → Rule (grammarIn rows head) p M γ → RowOf rows (head .count) p M γ
   unfolding grammarIn
   rule-row {p} r =
-      let h = numbered-found rows count 0 p (r .found) in
+      let h = numbered-found rows (head .count) 0 p (r .found) in
       let z : 0 + h .0 ≡ h .0 = omega arith in
       let e = rw z at (h .3) in
       record { row = h .0; number = h .1; low = h .2; left = ap (λ (P : Production). P .left) e; body = ap (λ (P : Production). P .body) e }

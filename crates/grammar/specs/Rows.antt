@@ -10,6 +10,7 @@ use Rattle.base.specs.Blocks.{zeros, length-zeros, zeros-append, copied, copied
 use Rattle.grammar.specs.Limits.{maxTerminals, maxNonterminals, maxProductions, maxBody}
 use Rattle.grammar.specs.Each.{Each, each-join}
 use Rattle.grammar.specs.Grammar.{Production, Grammar, SymbolOf, Allowed, WellFormed}
+use Rattle.grammar.specs.declared.Head.{Head}
 
 -- a left side, a length and a body
 abbrev pub rowSize : ℕ
@@ -66,8 +67,13 @@ abbrev pub productionsFrom : List ℕ → ℕ → ℕ → List Production
 productionsFrom rows zero p = []
 productionsFrom rows (suc k) p = productionAt rows p ∷ productionsFrom rows k (p + 1)
 
-unfoldable pub grammarIn : List ℕ → ℕ → ℕ → ℕ → ℕ → Grammar
-grammarIn rows t n s count = record { t = t; n = n; start = s; productions = productionsFrom rows count 0 }
+-- the grammar of a head and its rows
+unfoldable pub grammarIn : List ℕ → Head → Grammar
+grammarIn rows head = record { t = head .t; n = head .n; start = head .start; productions = productionsFrom rows (head .count) 0 }
+
+-- a grammar's head
+abbrev pub headOf : Grammar → Head
+headOf G = record { t = G .t; n = G .n; start = G .start; count = length (G .productions) }
 
 -- ---- a row as the reader writes it: what stands in a record behind its mark, onto zeros
 
@@ -168,7 +174,7 @@ module _ {t n : ℕ} (small : t + n < symbolSpace) where
       λ i. production-in (rowsBytes (Qs ++ P ∷ more) ++ zs) (length Qs) P a (row-in Qs P more zs q a) i ∷ rest i
 
 -- a grammar's rows hold that grammar
-pub rows-grammar : (G : Grammar) → WellFormed G → grammarIn (rowsOf (G .productions)) (G .t) (G .n) (G .start) (length (G .productions)) ≡ G
+pub rows-grammar : (G : Grammar) → WellFormed G → grammarIn (rowsOf (G .productions)) (headOf G) ≡ G
 unfolding grammarIn rowsOf
 rows-grammar G f =
     let small : G .t + G .n < symbolSpace = omega (arith, f .head .terminals .1, f .head .nonterminals .1) in
@@ -176,9 +182,9 @@ rows-grammar G f =
     λ i. record { t = G .t; n = G .n; start = G .start; productions = e i }
 
 -- a start symbol is a small number, too
-pub start-small : (rows : List ℕ) (t n start count : ℕ) → WellFormed (grammarIn rows t n start count) → start < symbolSpace
+pub start-small : (rows : List ℕ) (head : Head) → WellFormed (grammarIn rows head) → head .start < symbolSpace
 unfolding grammarIn
-start-small rows t n start count f = omega (arith, f .head .terminals .1, f .head .nonterminals .1, f .head .start .1)
+start-small rows head f = omega (arith, f .head .terminals .1, f .head .nonterminals .1, f .head .start .1)
 
 -- ---- reading a row, as the code does it
 

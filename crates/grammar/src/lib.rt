@@ -7,9 +7,9 @@ ghost use Rattle.base.specs.Blocks.{zeros};
 ghost use Rattle.grammar.specs.Limits.{maxTerminals, maxNonterminals};
 ghost use Rattle.grammar.specs.Grammar.{AllowedHead};
 ghost use Rattle.grammar.specs.Image.{HeadFirst};
-ghost use Rattle.grammar.specs.Rows.{rowsSize, symbolSpace, bodySpace, rowsOf, leftAt, lengthAt, symbolAt};
+ghost use Rattle.grammar.specs.Rows.{rowsSize, symbolSpace, bodySpace, rowsOf, headOf, leftAt, lengthAt, symbolAt};
 ghost use Rattle.grammar.specs.Reading.{Headed, Symbols, Starts};
-ghost use Rattle.grammar.specs.Outcome.{headOf, Reads};
+ghost use Rattle.grammar.specs.Outcome.{Reads};
 ghost use Rattle.grammar.specs.Reference.{reference};
 
 // Document 01's limits, marks and record sizes.
