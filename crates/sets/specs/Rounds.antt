@@ -60,7 +60,9 @@ module _ (rows : List ℕ) (count : ℕ) where
       let two : Within s' s'' = rw f (within-swept rows false count count s') in
       record {
         within = within-trans (h .within) (within-trans one two);
-        sound = λ head l q. rw f (sound-swept rows head count l false count (omega arith) (rw e (sound-swept rows head count l true count (omega arith) (h .sound head l q))));
+        sound = λ head l q.
+            rw f (sound-swept rows head count l false count (omega arith)
+            (rw e (sound-swept rows head count l true count (omega arith) (h .sound head l q))));
         closed = λ z. let w = k .still (omega arith) in ap (swept rows false count count) w ∙ sym f;
       }
 
