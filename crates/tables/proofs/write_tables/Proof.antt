@@ -31,7 +31,7 @@ same-length : tie.Need-same-length
 same-length c = search needs
 
 returns : tie.Need-returns
-returns c = tables-from _ _ _ _ (c .before .before .before .before .before .before .before .before .before .before .before .before .before .before .before .before .before .pre .0) _ _ (c .before .before .before .before .before .before .before .before .before .before .before .fill-steps .ensures) _ _ (c .before .before .before .before .before .before .before .fill-masks .ensures) _ (c .before .before .lay .ensures)
+returns c = let s = c .before .before .before .before .before .before .before in tables-from _ _ _ _ (s .before .before .before .before .before .before .before .before .before .before .pre .0) _ _ (s .before .before .before .before .fill-steps .ensures) _ _ (s .fill-masks .ensures) _ (c .before .before .lay .ensures)
 
 pub write-tables-spec : {M : Type 1} → statement M
 write-tables-spec =
