@@ -7,9 +7,9 @@ ghost use Prim.Native.Nat.{_+_, _*_, _<_, _≤_};
 ghost use lib.ListN.{length};
 ghost use Rattle.base.specs.Blocks.{zeros};
 ghost use Rattle.grammar.specs.Limits.{maxTerminals, maxProductions};
-ghost use Rattle.grammar.specs.Rows.{rowsSize, symbolSpace, leftAt, grammarIn};
+ghost use Rattle.grammar.specs.Rows.{symbolSpace, grammarIn};
 ghost use Rattle.sets.specs.Words.{leads as leadsm, both as bothm, raised, stepped, producedAt, turned as turnedm, swept, begun, setsSize};
-ghost use Rattle.sets.specs.Sweeps.{Grew, At};
+ghost use Rattle.sets.specs.Sweeps.{Grew};
 ghost use Rattle.sets.specs.Rounds.{Settled};
 ghost use Rattle.sets.specs.Known.{Known};
 
