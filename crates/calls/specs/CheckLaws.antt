@@ -1,17 +1,19 @@
 -- Laws: each check passes or refuses in one way only; replies 1 to 3 together; valid trees.
 use Prim.Native.Nat.{ℕ, _≤_}
-use mathlib.Core.Path.{_≡_, refl, subst}
+use mathlib.Core.Path.{_≡_, refl, ap, _∙_, subst}
 use mathlib.Core.List.{List}
-use lib.ListN.{length}
+use lib.ListN.{length, getD}
 use native.Mathlib.Omega.{arith}
 use Rattle.base.specs.Choose.{never}
+use Rattle.base.specs.Blocks.{zeros, byte-zeros}
 use Rattle.grammar.specs.Grammar.{Grammar}
 use Rattle.grammar.specs.Derivation.{Useless, Lowest}
 use Rattle.grammar.specs.Prediction.{Prepared, Conflict}
 use Rattle.grammar.specs.Image.{Image, Bad}
 use Rattle.grammar.specs.Images.{image-one, good-not-bad, bad-one}
 use Rattle.grammar.specs.Forest.{Token, Forest}
-use Rattle.trees.specs.Area.{Area, Valid}
+use Rattle.trees.specs.Area.{headerBytes, slotAt, Area, Valid}
+use Rattle.trees.specs.Slots.{slot-byte}
 use Rattle.walks.specs.Reading.{valid-one}
 use Rattle.plain.specs.Plain.{Verdict, accepted, syntax, noRoom, Parses}
 use Rattle.plain.specs.One.{runs-one}
@@ -21,7 +23,7 @@ use Rattle.replies.specs.declared.Reason.{Reason}
 use Rattle.replies.specs.declared.Reply.{Reply}
 use Rattle.replies.specs.declared.Reason.the-variants as reasons
 use Rattle.replies.specs.declared.Reply.the-variants.{Refused}
-use Rattle.calls.specs.Order.{Check, Call, Outcome, refused, passed, at}
+use Rattle.calls.specs.Order.{Check, Call, Outcome, refused, passed, exactly, at}
 use Rattle.calls.specs.OrderLaws.{Single, Settled, find-single, none-single, placed-numbered, placed-one, placed-apart, passes, goes-by}
 use Rattle.calls.specs.Checks.{readable, given, Sized, area, Holds, treeIn, sentence, Rejected, wrong-syntax, no-room, parsed}
 
@@ -52,6 +54,18 @@ pub trees-one : {G : Grammar} {S S' : ℕ} {b : List ℕ} (u : Valid G S b) (v :
 trees-one {G} {b = b} u v =
     let e = sized-one (valid-sized v) (valid-sized u) in
     valid-one u (record { some = u .some; few = u .few; tree = v .tree; derives = v .derives; area = subst (λ (x : ℕ). Area x (v .tree) b) e (v .area) })
+
+-- "An all-zero area is no tree"
+pub zeros-no-tree : {G : Grammar} {S : ℕ} (n : ℕ) → Valid G S (zeros n) → ⊥
+unfolding headerBytes
+zeros-no-tree n v =
+    let e : getD (slotAt (zeros n) 0) 0 0 ≡ 0x54 = ap (λ (b : List ℕ). getD b 0 0) (v .area .header) in
+    let z : getD (slotAt (zeros n) 0) 0 0 ≡ 0 = slot-byte (zeros n) 0 0 (omega arith) ∙ byte-zeros n 0 in
+    omega (arith, e, z)
+
+-- so that a call which looks for one refuses it
+pub zeros-refused : {G : Grammar} {S : ℕ} (n : ℕ) → Sized S (length (zeros n)) → treeIn G S (zeros n) .Fail reasons.WrongTree
+zeros-refused n z = exactly (λ f h. zeros-no-tree n (validOf z h))
 
 pub sentence-single : {t : ℕ} {bytes : List ℕ} → Single (sentence t bytes)
 sentence-single = record { finds = sentence-one; reason = λ f g. placed-one (λ k l. bad-token-one) f g; apart = λ s f. placed-apart (λ k s b. bad-not-sentence b s) s f }

@@ -13,7 +13,7 @@ use Rattle.grammar.specs.Images.{image-one}
 use Rattle.grammar.specs.Forest.{Token, Forest, size, yield}
 use Rattle.tables.specs.Tables.{tablesSize, Tables}
 use Rattle.tables.specs.One.{tables-one}
-use Rattle.trees.specs.Area.{Area}
+use Rattle.trees.specs.Area.{Valid}
 use Rattle.plain.specs.Plain.{Verdict, accepted, syntax, noRoom, Parses}
 use Rattle.plain.specs.Exactly.{Fitting}
 use Rattle.plain.specs.Viable.{Longest, place-longest}
@@ -131,6 +131,12 @@ module _ {image tables tokens : List ℕ} {room long : ℕ} {tree : List ℕ} wh
       let (v, o, q) = any-before (parseCall image tables tokens room long) tree other r tree' h in
       let e = one-outcome (parseCall image tables tokens room long) (parse-settled image tables tokens room long) other r s v other' o k in
       (e .0, λ n. sym (q n) ∙ e .1)
+
+-- the area is a valid tree then
+abbrev pub stores-valid : {image tables tokens : List ℕ} {room long : ℕ} {tree : List ℕ} {c : Counts} {tree' : List ℕ} (x : Stores image tables tokens room long tree c tree')
+    → Valid (x .reached .grammar) (x .reached .slots) tree'
+stores-valid x =
+    record { some = x .reached .sized .some; few = x .reached .sized .few; tree = x .storage .tree; derives = x .storage .stored .derives; area = x .storage .area }
 
 -- with the right tables, lengths and tokens
 module _ {G : Grammar} {S : ℕ} {w : List Token} {image tables tokens : List ℕ} {room long : ℕ} (f : Fit image G) (t : Tables G tables) (z : Sized S long) (l : workAreas * long ≤ room)

@@ -14,3 +14,6 @@ pub mod CallsUnique
 pub mod Verdicts
 -- The demands at the calls.
 pub mod Demand2
+pub mod Demand3
+-- Across calls.
+pub mod RoundTrips
