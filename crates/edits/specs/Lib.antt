@@ -20,6 +20,8 @@ pub mod After
 pub mod Along
 -- What the tree area keeps of a subtree that is carried along.
 pub mod Untouched
+-- A slot is kept exactly by the rule.
+pub mod KeptSlots
 -- The slots of the new tree: given in one way only, and enough of them.
 pub mod Giving
 -- The kept nodes and those given up are the old tree's.

@@ -1,2 +1,4 @@
 -- Meaning: the reply and its bytes.
 pub mod Reply
+-- Its number.
+pub mod ReplyLaws

@@ -1,0 +1,1 @@
+// What the calls mean, and what follows from it; there is no code.
