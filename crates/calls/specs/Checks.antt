@@ -9,10 +9,9 @@ use Rattle.grammar.specs.Prediction.{Conflict}
 use Rattle.grammar.specs.Image.{Image, Bad}
 use Rattle.grammar.specs.Forest.{Token, Forest, yield, Derives}
 use Rattle.tables.specs.Tables.{tablesSize, Tables}
-use Rattle.trees.specs.Area.{maxSlots, areaSize, Area}
+use Rattle.trees.specs.Area.{maxSlots, areaSize, workAreas, Area}
 use Rattle.plain.specs.Plain.{accepted, syntax, noRoom, Parses}
 use Rattle.plain.specs.Tokens.{tokenSize, Sentence, BadToken}
-use Rattle.altering.specs.Treed.{workAreas}
 use Rattle.replies.specs.declared.Reason.{Reason}
 use Rattle.replies.specs.declared.Reason.the-variants as reasons
 use Rattle.calls.specs.Order.{Check, Call, try, _>>=_, _>>_, Placed, require, find, none}

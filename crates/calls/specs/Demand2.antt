@@ -13,12 +13,11 @@ use Rattle.grammar.specs.Images.{image-one}
 use Rattle.grammar.specs.Forest.{Token, Forest, size, yield}
 use Rattle.tables.specs.Tables.{tablesSize, Tables}
 use Rattle.tables.specs.One.{tables-one}
-use Rattle.trees.specs.Area.{Valid}
+use Rattle.trees.specs.Area.{workAreas, Valid}
 use Rattle.plain.specs.Plain.{Verdict, accepted, syntax, noRoom, Parses}
 use Rattle.plain.specs.Exactly.{Fitting}
 use Rattle.plain.specs.Viable.{Longest, place-longest}
 use Rattle.plain.specs.Tokens.{Sentence}
-use Rattle.altering.specs.Treed.{workAreas}
 use Rattle.replies.specs.Reply.{wordSize, numberOf}
 use Rattle.replies.specs.ReplyLaws.{number-told}
 use Rattle.replies.specs.declared.Counts.{Counts}

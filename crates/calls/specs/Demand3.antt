@@ -5,20 +5,20 @@ use mathlib.Core.Logic.{_↔_}
 use mathlib.Core.List.{List, [], _∷_, List·Memᴰ}
 use lib.ListN.{length}
 use native.Mathlib.Omega.{arith}
-use Rattle.grammar.specs.Each.{Each, each-join}
+use Rattle.grammar.specs.Each.{Each, each-join, each-take, each-drop}
 use Rattle.grammar.specs.Grammar.{Grammar}
 use Rattle.grammar.specs.Prediction.{Prepared}
 use Rattle.grammar.specs.Image.{Image}
 use Rattle.grammar.specs.Images.{image-one}
 use Rattle.grammar.specs.Forest.{Token, Forest, size, yield, Derives, Tree}
 use Rattle.tables.specs.Tables.{Tables}
-use Rattle.trees.specs.Area.{slotAt, top, Valid}
+use Rattle.trees.specs.Area.{workAreas, slotAt, top, Valid}
 use Rattle.plain.specs.Plain.{Verdict, Parses}
 use Rattle.plain.specs.Traced.{Same, terminals}
 use Rattle.plain.specs.Exactly.{Fitting, tree-one}
 use Rattle.plain.specs.Viable.{Longest}
-use Rattle.plain.specs.Tokens.{tokenBytes, Sentence, sentence-one}
-use Rattle.edits.specs.Keeping.{Edit, edited, Node, Keeps, Altered}
+use Rattle.plain.specs.Tokens.{tokenBytes, Sentence, Good, good-of, good-kinds, good-tags, good-linked, sentence-one}
+use Rattle.edits.specs.Keeping.{Edit, editOf, edited, Node, Keeps, Altered}
 use Rattle.edits.specs.Places.{treeSize}
 use Rattle.edits.specs.Edited.{Trees, altered-trees}
 use Rattle.edits.specs.Before.{before-keeps}
@@ -26,9 +26,6 @@ use Rattle.edits.specs.Untouched.{Written, untouched, untouched-top}
 use Rattle.edits.specs.KeptSlots.{keeps-exactly}
 use Rattle.edits.specs.Giving.{kept-made, holding-held}
 use Rattle.edits.specs.Counts.{kept-given-up}
-use Rattle.sentences.specs.Forming.{editOf}
-use Rattle.sentences.specs.Grounding.{Good, good-of, good-kinds, good-tags, good-linked, each-take, each-drop}
-use Rattle.altering.specs.Treed.{workAreas}
 use Rattle.replies.specs.Reply.{wordSize, numberOf}
 use Rattle.replies.specs.declared.Counts.{Counts}
 use Rattle.replies.specs.declared.Reply.{Reply}

@@ -6,8 +6,7 @@ use lib.ListN.{length}
 use Rattle.grammar.specs.Grammar.{Grammar}
 use Rattle.grammar.specs.Forest.{Forest, size, yield}
 use Rattle.trees.specs.Area.{Area}
-use Rattle.edits.specs.Keeping.{Edit, edited, Altered}
-use Rattle.sentences.specs.Forming.{editOf}
+use Rattle.edits.specs.Keeping.{Edit, editOf, edited, Altered}
 use Rattle.replies.specs.declared.Counts.{Counts}
 use Rattle.calls.specs.Order.{Call, accept, counts, _>>=_, _>>_}
 use Rattle.calls.specs.Checks.{given, tablesOf, area, treeIn, workFor, sentence, range, parsed}

@@ -11,10 +11,8 @@ use Rattle.grammar.specs.Grammar.{Grammar}
 use Rattle.grammar.specs.Forest.{Token, Forest, size, yield}
 use Rattle.trees.specs.Area.{tokensPlace, Valid}
 use Rattle.walks.specs.Reading.{valid-header}
-use Rattle.plain.specs.Tokens.{tokenSize, tokenBytes}
-use Rattle.edits.specs.Keeping.{edited}
-use Rattle.sentences.specs.Adding.{length-token-bytes, token-bytes-append}
-use Rattle.sentences.specs.Forming.{editOf}
+use Rattle.plain.specs.Tokens.{tokenSize, tokenBytes, length-token-bytes, token-bytes-append}
+use Rattle.edits.specs.Keeping.{editOf, edited}
 use Rattle.replies.specs.declared.Counts.{Counts}
 use Rattle.replies.specs.declared.Reply.{Reply}
 use Rattle.replies.specs.declared.Reply.the-variants.{Accepted}

@@ -15,6 +15,10 @@ pub record Edit : Type 0 where
   pub removed : ℕ
   pub inserted : List Token
 
+-- the edit at this place that removes so many tokens and puts these there
+abbrev pub editOf : ℕ → ℕ → List Token → Edit
+editOf place removed w = record { place = place; removed = removed; inserted = w }
+
 -- the sentence w with the run of tokens replaced
 abbrev pub edited : Edit → List Token → List Token
 edited e w = take (e .place) w ++ (e .inserted ++ drop (e .place + e .removed) w)

@@ -1,7 +1,7 @@
 -- Every element of a list has a property.
 use mathlib.Core.List.{List, [], _∷_, _++_}
 use Prim.Native.Nat.{ℕ, zero, suc, _<_}
-use lib.ListN.{length, getD}
+use lib.ListN.{length, getD, take, drop, take-append-drop}
 use native.Mathlib.Omega.{arith}
 
 pub data Each {A : Type 0} (P : A → Type 0) : List A → Type 0 where
@@ -15,6 +15,12 @@ each-join (Each.cons p e) k = Each.cons p (each-join e k)
 pub each-parts : {A : Type 0} {P : A → Type 0} (xs : List A) {ys : List A} → Each P (xs ++ ys) → Each P xs × Each P ys
 each-parts [] e = (Each.nil, e)
 each-parts (x ∷ xs) (Each.cons p e) = let q = each-parts xs e in (Each.cons p (q .0), q .1)
+
+pub each-take : {A : Type 0} {P : A → Type 0} (k : ℕ) (xs : List A) → Each P xs → Each P (take k xs)
+each-take {P = P} k xs e = each-parts {P = P} (take k xs) {ys = drop k xs} (rw (take-append-drop k xs) e) .0
+
+pub each-drop : {A : Type 0} {P : A → Type 0} (k : ℕ) (xs : List A) → Each P xs → Each P (drop k xs)
+each-drop {P = P} k xs e = each-parts {P = P} (take k xs) {ys = drop k xs} (rw (take-append-drop k xs) e) .1
 
 pub each-head : {A : Type 0} {P : A → Type 0} {x : A} {xs : List A} → Each P (x ∷ xs) → P x
 each-head (Each.cons p e) = p

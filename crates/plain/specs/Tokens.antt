@@ -9,10 +9,10 @@ use native.Mathlib.Decide.{ℕ-discrete}
 use native.Mathlib.Omega.{arith}
 use Rattle.base.specs.Bytes.{byteAt, get32, Bytes, leBytes}
 use Rattle.base.specs.Choose.{never}
-use Rattle.grammar.specs.Each.{Each}
-use Rattle.trees.specs.Area.{tagSpace}
+use Rattle.grammar.specs.Each.{Each, each-join}
+use Rattle.trees.specs.Area.{tagSpace, Linked}
 use Rattle.grammar.specs.Grammar.{TerminalOf}
-use Rattle.grammar.specs.Forest.{Token, kinds}
+use Rattle.grammar.specs.Forest.{Token, kinds, Forest, yield}
 
 abbrev pub tokenSize : ℕ
 tokenSize = 5
@@ -44,6 +44,41 @@ pub record BadToken (t : ℕ) (b : List ℕ) (k : ℕ) : Type 0 where
   pub is : b ≡ tokenBytes good ++ rest
   pub some : 1 ≤ length rest
   pub bad : Stops t rest
+
+-- ---- their bytes
+
+pub length-token-bytes : (w : List Token) → length (tokenBytes w) ≡ tokenSize * length w
+unfolding leBytes
+length-token-bytes [] = refl
+length-token-bytes (k ∷ w) = omega (arith, length-token-bytes w)
+
+pub token-bytes-append : (u v : List Token) → tokenBytes (u ++ v) ≡ tokenBytes u ++ tokenBytes v
+token-bytes-append [] v = refl
+token-bytes-append (k ∷ u) v =
+    ap (λ (x : List ℕ). k .kind ∷ x) (ap (λ (x : List ℕ). leBytes 4 (k .tag) ++ x) (token-bytes-append u v) ∙ sym (append-assoc (leBytes 4 (k .tag)) (tokenBytes u) (tokenBytes v)))
+
+-- ---- good tokens
+
+-- a token of kind 1..t with a 32-bit tag
+abbrev pub Good : ℕ → Token → Type 0
+Good t k = TerminalOf t (k .kind) × Tagged k
+
+pub good-of : {t : ℕ} (w : List Token) → Each (TerminalOf t) (kinds w) → Each Tagged w → Each (Good t) w
+good-of [] a b = Each.nil
+good-of (k ∷ w) (Each.cons x a) (Each.cons y b) = Each.cons (x, y) (good-of w a b)
+
+pub good-kinds : {t : ℕ} (w : List Token) → Each (Good t) w → Each (TerminalOf t) (kinds w)
+good-kinds [] a = Each.nil
+good-kinds (k ∷ w) (Each.cons x a) = Each.cons (x .0) (good-kinds w a)
+
+pub good-tags : {t : ℕ} (w : List Token) → Each (Good t) w → Each Tagged w
+good-tags [] a = Each.nil
+good-tags (k ∷ w) (Each.cons x a) = Each.cons (x .1) (good-tags w a)
+
+pub good-linked : {b : List ℕ} {p : ℕ} {f : Forest} → Linked b p f → Each Tagged (yield f)
+good-linked Linked.nil = Each.nil
+good-linked (Linked.leaf e l h) = Each.cons l (good-linked h)
+good-linked (Linked.node e h k) = each-join (good-linked h) (good-linked k)
 
 -- ---- reading them
 

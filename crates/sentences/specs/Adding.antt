@@ -8,22 +8,12 @@ use native.Mathlib.Omega.{arith}
 use Rattle.base.specs.Bytes.{put16, leBytes}
 use Rattle.base.specs.Blocks.{copied}
 use Rattle.grammar.specs.Forest.{Token}
-use Rattle.plain.specs.Tokens.{tokenSize, tokenBytes}
+use Rattle.plain.specs.Tokens.{tokenSize, tokenBytes, length-token-bytes, token-bytes-append}
 
 -- out' is out with the tokens v from token `at` on, up to token j
 pub record Added (v : List Token) (out out' : List ℕ) (at j : ℕ) : Type 0 where
   pub is : out' ≡ take (tokenSize * at) out ++ tokenBytes v ++ drop (tokenSize * j) out
   pub count : at + length v ≡ j
-
-pub length-token-bytes : (w : List Token) → length (tokenBytes w) ≡ tokenSize * length w
-unfolding leBytes
-length-token-bytes [] = refl
-length-token-bytes (k ∷ w) = omega (arith, length-token-bytes w)
-
-pub token-bytes-append : (u v : List Token) → tokenBytes (u ++ v) ≡ tokenBytes u ++ tokenBytes v
-token-bytes-append [] v = refl
-token-bytes-append (k ∷ u) v =
-    ap (λ (x : List ℕ). k .kind ∷ x) (ap (λ (x : List ℕ). leBytes 4 (k .tag) ++ x) (token-bytes-append u v) ∙ sym (append-assoc (leBytes 4 (k .tag)) (tokenBytes u) (tokenBytes v)))
 
 pub added-none : (out : List ℕ) (at : ℕ) → Added [] out out at at
 added-none out at =

@@ -11,8 +11,8 @@ use Rattle.grammar.specs.Forest.{Token}
 use Rattle.trees.specs.Nodes.{Node, leavesOf}
 use Rattle.trees.specs.Coded.{nodeSize, nodeAt}
 use Rattle.trees.specs.Listing.{node-kept, nodes-kept}
-use Rattle.plain.specs.Tokens.{tokenSize, tokenBytes, tokensFrom}
-use Rattle.sentences.specs.Adding.{Added, length-token-bytes, added-copy}
+use Rattle.plain.specs.Tokens.{tokenSize, tokenBytes, length-token-bytes, tokensFrom}
+use Rattle.sentences.specs.Adding.{Added, added-copy}
 use Rattle.sentences.specs.Leaves.{leavesFrom, Giving, giving-inner, giving-leaf, Gave, Skipped}
 use Rattle.sentences.specs.Forming.{NewSentence, tokens-added, formed}
 

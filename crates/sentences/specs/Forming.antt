@@ -12,14 +12,10 @@ use Rattle.base.specs.Blocks.{copied}
 use Rattle.grammar.specs.Forest.{Token}
 use Rattle.trees.specs.Nodes.{leavesOf}
 use Rattle.trees.specs.Coded.{nodesFrom}
-use Rattle.plain.specs.Tokens.{tokenSize, tokenBytes, tokensFrom, tokens-part, length-tokens}
-use Rattle.edits.specs.Keeping.{Edit, edited}
-use Rattle.sentences.specs.Adding.{Added, length-token-bytes, added-copy, added-more}
+use Rattle.plain.specs.Tokens.{tokenSize, tokenBytes, length-token-bytes, tokensFrom, tokens-part, length-tokens}
+use Rattle.edits.specs.Keeping.{editOf, edited}
+use Rattle.sentences.specs.Adding.{Added, added-copy, added-more}
 use Rattle.sentences.specs.Leaves.{leavesFrom, leaves-whole, Gave, Skipped}
-
--- the edit at this place that removes so many tokens and puts these there
-abbrev pub editOf : ℕ → ℕ → List Token → Edit
-editOf place removed w = record { place = place; removed = removed; inserted = w }
 
 -- the first `limit` tokens of the new sentence, r of them, stand at the beginning of out'; the old one is that of the n nodes, and b are the m lent tokens
 pub record NewSentence (nodes : List ℕ) (n place removed : ℕ) (b : List ℕ) (m limit : ℕ) (out out' : List ℕ) (r : ℕ) : Type 0 where

@@ -2,61 +2,34 @@
 use Prim.Native.Nat.{ℕ, zero, suc, _+_, _*_, _<_}
 use mathlib.Core.Path.{_≡_, ap, _∙_}
 use mathlib.Core.List.{List, [], _∷_, _++_}
-use lib.ListN.{length, take, drop, take-append-drop}
+use lib.ListN.{length, take, drop}
 use lib.Seq.{take-at}
 use native.Mathlib.Omega.{arith}
 use Rattle.base.specs.Bytes.{Bytes, leBytes, byteAt}
-use Rattle.grammar.specs.Each.{Each, each-join, each-parts}
+use Rattle.grammar.specs.Each.{Each, each-join, each-take, each-drop}
 use Rattle.grammar.specs.Grammar.{Grammar, TerminalOf}
 use Rattle.grammar.specs.Prediction.{Prepared}
-use Rattle.grammar.specs.Forest.{Token, kinds, Forest, yield}
+use Rattle.grammar.specs.Forest.{Token, yield}
 use Rattle.grammar.specs.Rows.{grammarIn}
 use Rattle.grammar.specs.declared.Head.{Head}
 use Rattle.tables.specs.Tables.{Tables}
-use Rattle.trees.specs.Area.{Linked, Valid}
+use Rattle.trees.specs.Area.{Valid}
 use Rattle.trees.specs.Nodes.{leavesOf}
 use Rattle.trees.specs.Coded.{nodesFrom}
 use Rattle.plain.specs.Plain.{Verdict, accepted, Parses}
 use Rattle.plain.specs.Traced.{terminals}
-use Rattle.plain.specs.Tokens.{tokenSize, Tagged, tokenBytes, Sentence, tokensFrom, Kinds, sentence-of, sentence-one}
+use Rattle.plain.specs.Tokens.{tokenSize, tokenBytes, Sentence, length-token-bytes, Good, good-of, good-kinds, good-tags, good-linked, tokensFrom, Kinds, sentence-of, sentence-one}
 use Rattle.plain.specs.Machine.{Ground}
-use Rattle.edits.specs.Keeping.{edited}
+use Rattle.edits.specs.Keeping.{editOf, edited}
 use Rattle.edits.specs.Cut.{cut-run, cut-accepted}
-use Rattle.sentences.specs.Adding.{Added, length-token-bytes}
-use Rattle.sentences.specs.Forming.{editOf, NewSentence}
+use Rattle.sentences.specs.Adding.{Added}
+use Rattle.sentences.specs.Forming.{NewSentence}
 
--- ---- good tokens
-
--- a token of kind 1..t with a 32-bit tag
-abbrev pub Good : ℕ → Token → Type 0
-Good t k = TerminalOf t (k .kind) × Tagged k
-
-pub good-of : {t : ℕ} (w : List Token) → Each (TerminalOf t) (kinds w) → Each Tagged w → Each (Good t) w
-good-of [] a b = Each.nil
-good-of (k ∷ w) (Each.cons x a) (Each.cons y b) = Each.cons (x, y) (good-of w a b)
-
-pub good-kinds : {t : ℕ} (w : List Token) → Each (Good t) w → Each (TerminalOf t) (kinds w)
-good-kinds [] a = Each.nil
-good-kinds (k ∷ w) (Each.cons x a) = Each.cons (x .0) (good-kinds w a)
-
-pub good-tags : {t : ℕ} (w : List Token) → Each (Good t) w → Each Tagged w
-good-tags [] a = Each.nil
-good-tags (k ∷ w) (Each.cons x a) = Each.cons (x .1) (good-tags w a)
-
-pub each-take : {P : Token → Type 0} (k : ℕ) (w : List Token) → Each P w → Each P (take k w)
-each-take {P} k w e = each-parts {P = P} (take k w) {ys = drop k w} (rw (take-append-drop k w) e) .0
-
-pub each-drop : {P : Token → Type 0} (k : ℕ) (w : List Token) → Each P w → Each P (drop k w)
-each-drop {P} k w e = each-parts {P = P} (take k w) {ys = drop k w} (rw (take-append-drop k w) e) .1
+-- ---- good tokens of the new sentence
 
 good-edited : {t : ℕ} (place removed limit : ℕ) (w ins : List Token) → Each (Good t) w → Each (Good t) ins → Each (Good t) (take limit (edited (editOf place removed ins) w))
 good-edited place removed limit w ins e f =
     each-take limit (edited (editOf place removed ins) w) (each-join (each-take place w e) (each-join f (each-drop (place + removed) w e)))
-
-pub good-linked : {b : List ℕ} {p : ℕ} {f : Forest} → Linked b p f → Each Tagged (yield f)
-good-linked Linked.nil = Each.nil
-good-linked (Linked.leaf e l h) = Each.cons l (good-linked h)
-good-linked (Linked.node e h k) = each-join (good-linked h) (good-linked k)
 
 -- ---- their bytes
 

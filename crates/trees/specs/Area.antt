@@ -22,6 +22,10 @@ maxSlots = 1000
 abbrev pub areaSize : ℕ → ℕ
 areaSize S = headerSize + slotSize * S
 
+-- "three times the tree area": how many of them a work area has room for
+abbrev pub workAreas : ℕ
+workAreas = 3
+
 -- "a 32-bit tag"
 abbrev pub tagSpace : ℕ
 tagSpace = 2 ^ 32

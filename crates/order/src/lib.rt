@@ -1,1 +1,0 @@
-// The order in which calls try their replies; there is no code.
