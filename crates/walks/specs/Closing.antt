@@ -14,6 +14,7 @@ use Rattle.base.specs.Tells.{Tells, tells-yes, tells-no}
 use Rattle.base.specs.Bytes.{byteAt, get16, get32, leBytes}
 use Rattle.base.specs.Written.{get64, get64-two}
 use Rattle.base.specs.Blocks.{zeros, length-zeros, byte-zeros}
+use Rattle.grammar.specs.declared.Head.{Head}
 use Rattle.grammar.specs.Grammar.{Grammar}
 use Rattle.grammar.specs.Forest.{size}
 use Rattle.trees.specs.Area.{rootPlace, usedPlace, tokensPlace, slotSize, maxSlots, areaSize, headerBytes, slotAt, Valid}
@@ -236,20 +237,20 @@ pub data Reads (G : Grammar) (S : ℕ) (b w : List ℕ) : Walked → Type 0 wher
   tree : {n : ℕ} (v : Valid G S b) → preorder (v .tree) ≡ nodesFrom w n 0 → n ≡ size (v .tree) → Reads G S b w (Tree n)
   none : (Valid G S b → ⊥) → Reads G S b w NoTree
 
-module _ (rows : List ℕ) (t n start count S : ℕ) (b w : List ℕ) where
+module _ (rows : List ℕ) (head : Head) (S : ℕ) (b w : List ℕ) where
   abbrev G· : Grammar
-  G· = gram rows t n start count S b
+  G· = gram rows head S b
 
   -- the walk went astray
-  pub reads-astray : (r : Course) → Wandered rows t n start count S b w r → r ≡ Astray → Reads G· S b w NoTree
+  pub reads-astray : (r : Course) → Wandered rows head S b w r → r ≡ Astray → Reads G· S b w NoTree
   reads-astray r (Wandered.through l h) e = never (cc)
   reads-astray r (Wandered.astray h) e = Reads.none (λ v. h .no (preorder (v .tree)) (valid-found v .walks) (valid-found v .once) (valid-few v))
 
-  module _ (r : Course) (i leaves : ℕ) (h : Wandered rows t n start count S b w r) (e : r ≡ Through i leaves) where
-    ended : Ended rows t n start count S b w i leaves
+  module _ (r : Course) (i leaves : ℕ) (h : Wandered rows head S b w r) (e : r ≡ Through i leaves) where
+    ended : Ended rows head S b w i leaves
     ended = go h e
       where
-        go : {r : Course} → Wandered rows t n start count S b w r → r ≡ Through i leaves → Ended rows t n start count S b w i leaves
+        go : {r : Course} → Wandered rows head S b w r → r ≡ Through i leaves → Ended rows head S b w i leaves
         go (Wandered.through {i = j} {leaves = k} l h) e =
             let q : j ≡ i = cc in
             let o : k ≡ leaves = cc in
@@ -259,7 +260,7 @@ module _ (rows : List ℕ) (t n start count S : ℕ) (b w : List ℕ) where
     pub wandered-few : (i ≤ S) × (leaves ≤ i)
     wandered-few = (go h e, omega (arith, ended .counted, leaves-few (nodesFrom w i 0), length-nodes w i 0))
       where
-        go : {r : Course} → Wandered rows t n start count S b w r → r ≡ Through i leaves → i ≤ S
+        go : {r : Course} → Wandered rows head S b w r → r ≡ Through i leaves → i ≤ S
         go (Wandered.through {i = j} l h) e = let q : j ≡ i = cc in omega arith
         go (Wandered.astray h) e = never (cc)
 
