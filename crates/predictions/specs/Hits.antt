@@ -13,6 +13,7 @@ use Rattle.grammar.specs.Limits.{columns}
 use Rattle.grammar.specs.Grammar.{Grammar}
 use Rattle.grammar.specs.Rows.{leftAt, lengthAt, symbolAt, symbolsFrom, grammarIn, left-small, symbols-small}
 use Rattle.grammar.specs.RowRules.{bodyAt}
+use Rattle.grammar.specs.declared.Head.{Head}
 use Rattle.sets.specs.Words.{follows, leads, suffix}
 use Rattle.sets.specs.Facts.{leads-says, leads-here, leads-past, gone, begins, gone-of, begins-of}
 use Rattle.sets.specs.Closures.{begin-terminal}
@@ -57,9 +58,9 @@ pub record Clash (rows s : List ℕ) (k M : ℕ) : Type 0 where
   pub too : Hit rows s other M lookahead
 
 -- the bits are the predictors
-module _ (rows : List ℕ) (t n start count : ℕ) (s : List ℕ) (known : Known (grammarIn rows t n start count) s) (p : ℕ) where
+module _ (rows : List ℕ) (head : Head) (s : List ℕ) (known : Known (grammarIn rows head) s) (p : ℕ) where
   abbrev G : Grammar
-  G = grammarIn rows t n start count
+  G = grammarIn rows head
 
   chosen-has : (a : ℕ) → Chosen G a (leftAt rows p) (bodyAt rows p) → Has (predictors rows s p) a
   unfolding predictors
@@ -80,7 +81,7 @@ module _ (rows : List ℕ) (t n start count : ℕ) (s : List ℕ) (known : Known
           by-after (gone-of (known-suffix known (bodyAt rows p) 0 (symbols-small rows p (lengthAt rows p) 0) .0 (k .0)))
           (known-after known (leftAt rows p) a (left-small rows p) .0 (k .1))
 
-  pub hit-exactly : (a : ℕ) → Has (predictors rows s p) a ↔ Chosen (grammarIn rows t n start count) a (leftAt rows p) (bodyAt rows p)
+  pub hit-exactly : (a : ℕ) → Has (predictors rows s p) a ↔ Chosen (grammarIn rows head) a (leftAt rows p) (bodyAt rows p)
   hit-exactly a = (has-chosen a, chosen-has a)
 
 -- ---- the word of a body, from its end to its start

@@ -1,4 +1,5 @@
 // Which production each lookahead predicts, the lowest nonterminal in conflict, and the lowest useless one. `sets` are the words of crate sets.
+use grammar::Head;
 ghost use mathlib.Core.Path.{_≡_};
 ghost use Prim.Native.Nat.{_+_, _-_, _*_, _<_, _≤_};
 ghost use lib.ListN.{length};
@@ -22,12 +23,12 @@ pub fn has(m: u32, a: usize) -> bool
 }
 
 // The lowest nonterminal that is not both productive and reachable, or 0.
-pub fn useless(sets: &[u32], t: usize, n: usize) -> usize
-    requires { ⌜ (length (now sets) ≡ setsSize) × (t ≤ maxTerminals) × (n ≤ maxNonterminals) ⌝ }
-    ensures { λ r. ⌜ Idle (now (sets .entry)) t n r ⌝ }
+pub fn useless(sets: &[u32], head: Head) -> usize
+    requires { ⌜ (length (now sets) ≡ setsSize) × (head .t ≤ maxTerminals) × (head .n ≤ maxNonterminals) ⌝ }
+    ensures { λ r. ⌜ Idle (now (sets .entry)) (head .t) (head .n) r ⌝ }
 {
-    let mut x = t;
-    while x < t + n {
+    let mut x = head.t;
+    while x < head.t + head.n {
         let mark = sets[sets::MARKS + (x + 1)];
         if mark % 4 != 3 {
             return x + 1;
@@ -118,16 +119,16 @@ fn lower(c: usize, low: usize, m: usize) -> usize
 }
 
 // Lists every production in the cells, which are zero at first; the lowest nonterminal in conflict, or 0.
-pub fn predict(rows: &[u8], t: usize, count: usize, sets: &[u32], cells: &mut [u8]) -> usize
-    requires { ⌜ (length (now sets) ≡ setsSize) × (length (now cells) ≡ cellsSize) × (now cells ≡ zeros cellsSize) × (t ≤ maxTerminals) × (count ≤ maxProductions) × Rowed (now rows) t count ⌝ }
-    ensures { λ r. ⌜ Listed (now (rows .entry)) (now (sets .entry)) t count (now (cells .exit)) r ⌝ }
+pub fn predict(rows: &[u8], head: Head, sets: &[u32], cells: &mut [u8]) -> usize
+    requires { ⌜ (length (now sets) ≡ setsSize) × (length (now cells) ≡ cellsSize) × (now cells ≡ zeros cellsSize) × (head .t ≤ maxTerminals) × (head .count ≤ maxProductions) × Rowed (now rows) (head .t) (head .count) ⌝ }
+    ensures { λ r. ⌜ Listed (now (rows .entry)) (now (sets .entry)) (head .t) (head .count) (now (cells .exit)) r ⌝ }
 {
     let mut low: usize = 0;
     let mut p: usize = 0;
-    while p < count {
+    while p < head.count {
         let m = grammar::left_at(rows, p);
         let w = predictors(rows, p, m, sets);
-        let c = list_row(w, (p + 1) as u8, (m - t - 1) * grammar::COLUMNS, cells);
+        let c = list_row(w, (p + 1) as u8, (m - head.t - 1) * grammar::COLUMNS, cells);
         low = lower(c, low, m);
         p += 1;
     }

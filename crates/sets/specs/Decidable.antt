@@ -16,7 +16,8 @@ use Rattle.base.specs.Blocks.{zeros, byte-zeros}
 use Rattle.grammar.specs.Limits.{maxTerminals}
 use Rattle.grammar.specs.Grammar.{Grammar, Nonterminal, WellFormed}
 use Rattle.grammar.specs.Derivation.{Nullable, First, Productive, Reachable, Useless}
-use Rattle.grammar.specs.Rows.{symbolSpace, rowsOf, grammarIn, rows-grammar}
+use Rattle.grammar.specs.Rows.{symbolSpace, rowsOf, grammarIn, headOf, rows-grammar}
+use Rattle.grammar.specs.declared.Head.{Head}
 use Rattle.sets.specs.Words.{wordBits, follows, marks, setsSize, leads, both, raised, high, stepped, turn, passed, closing, produced, producedAt, swept, tokens, begun}
 use Rattle.sets.specs.Growth.{total, total-bound, Within, within-refl, within-trans}
 use Rattle.sets.specs.Facts.{Sound}
@@ -96,7 +97,7 @@ bounded-total s l b = let q : total s ≤ length s * 2 ^ wordBits = total-bound 
 
 module _ (rows : List ℕ) (count : ℕ) (s₀ : List ℕ) where
   settle : (fuel : ℕ) (s : List ℕ) → length s ≡ setsSize → Bounded s → Within s₀ s
-      → ((t n start : ℕ) → Sound (grammarIn rows t n start count) s₀ → Sound (grammarIn rows t n start count) s)
+      → ((head : Head) → count ≤ head .count → Sound (grammarIn rows head) s₀ → Sound (grammarIn rows head) s)
       → setsSize * 2 ^ wordBits - total s ≤ fuel → (s' : List ℕ) × Settled rows count s₀ s' 0
   settle zero s l b w h f =
       let v = within-swept rows false count count s in
@@ -108,7 +109,7 @@ module _ (rows : List ℕ) (count : ℕ) (s₀ : List ℕ) where
       let k = bounded-total (swept rows false count count s) (v .long ∙ l) c in
       by-cases (decLt (total s) (total (swept rows false count count s)))
       (λ m. settle fuel (swept rows false count count s) (v .long ∙ l) c (within-trans w v)
-      (λ t n start q. sound-swept rows t n start count false count (omega arith) (h t n start q)) (omega arith))
+      (λ head e q. sound-swept rows head count e false count (omega arith) (h head e q)) (omega arith))
       (λ m. (s, record { within = w; sound = h; closed = λ _. v .same (omega arith) }))
 
 -- a grammar within the limits has its words
@@ -117,8 +118,8 @@ analysed G f =
     let few = f .head .terminals .1 in
     let low : G .start < symbolSpace = omega (arith, f .head .start .1, few, f .head .nonterminals .1) in
     let b : List ℕ = begun (G .t) (G .start) in
-    let q = settle (rowsOf (G .productions)) (length (G .productions)) b (setsSize * 2 ^ wordBits) b (length-begun (G .t) (G .start)) (bounded-begun (G .t) (G .start) few) (within-refl b) (λ t n start h. h) (omega arith) in
-    let k = known-settled (rowsOf (G .productions)) (G .t) (G .n) (G .start) (length (G .productions)) few low (q .1) in
+    let q = settle (rowsOf (G .productions)) (length (G .productions)) b (setsSize * 2 ^ wordBits) b (length-begun (G .t) (G .start)) (bounded-begun (G .t) (G .start) few) (within-refl b) (λ head l h. h) (omega arith) in
+    let k = known-settled (rowsOf (G .productions)) (headOf G) few low (q .1) in
     (q .0, rw (rows-grammar G f) at k)
 
 -- ---- decided

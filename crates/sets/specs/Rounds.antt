@@ -17,6 +17,7 @@ use Rattle.grammar.specs.Grammar.{Grammar}
 use Rattle.grammar.specs.Derivation.{stop}
 use Rattle.grammar.specs.Rows.{symbolSpace, leftAt, grammarIn, left-small, symbols-small, lengthAt}
 use Rattle.grammar.specs.RowRules.{bodyAt, rule-at, rule-row}
+use Rattle.grammar.specs.declared.Head.{Head}
 use Rattle.sets.specs.Closures.{b-here, a-start}
 use Rattle.sets.specs.Words.{wordBits, follows, marks, setsSize, raised, producedAt, turned, swept, tokens, begun}
 use Rattle.sets.specs.Growth.{total, total-bound, Within, within-refl, within-trans, within-raised}
@@ -27,15 +28,15 @@ use Rattle.sets.specs.Sweeps.{Grew}
 
 -- ---- a sweep is sound
 
-module _ (rows : List ℕ) (t n start count : ℕ) where
+module _ (rows : List ℕ) (head : Head) (count : ℕ) (all : count ≤ head .count) where
   abbrev G : Grammar
-  G = grammarIn rows t n start count
+  G = grammarIn rows head
 
   pub sound-swept : (back : Bool) (k : ℕ) {s : List ℕ} → k ≤ count → Sound G s → Sound G (swept rows back count k s)
   unfolding swept producedAt
   sound-swept back zero l h = h
   sound-swept back (suc k) l h =
-      sound-produced (rule-at rows t n start count (turned back count k) (turned-low rows back count k (omega arith)))
+      sound-produced (rule-at rows head (turned back count k) (omega (arith, turned-low rows back count k (omega arith))))
       (left-small rows (turned back count k))
       (symbols-small rows (turned back count k) (lengthAt rows (turned back count k)) 0)
       (sound-swept back k (omega arith) h)
@@ -45,12 +46,12 @@ module _ (rows : List ℕ) (t n start count : ℕ) where
 -- rounds of sweeps went from s₀ to s; c words grew in the last
 pub record Settled (rows : List ℕ) (count : ℕ) (s₀ s : List ℕ) (c : ℕ) : Type 0 where
   pub within : Within s₀ s
-  pub sound : (t n start : ℕ) → Sound (grammarIn rows t n start count) s₀ → Sound (grammarIn rows t n start count) s
+  pub sound : (head : Head) → count ≤ head .count → Sound (grammarIn rows head) s₀ → Sound (grammarIn rows head) s
   pub closed : c ≡ 0 → swept rows false count count s ≡ s
 
 module _ (rows : List ℕ) (count : ℕ) where
   pub settled-start : (s : List ℕ) → Settled rows count s s 1
-  settled-start s = record { within = within-refl s; sound = λ t n start h. h; closed = λ e. absurd (omega arith) }
+  settled-start s = record { within = within-refl s; sound = λ head l h. h; closed = λ e. absurd (omega arith) }
 
   pub settled-turn : (s₀ s s' s'' : List ℕ) (c a b : ℕ) → Settled rows count s₀ s c → s' ≡ swept rows true count count s → s'' ≡ swept rows false count count s'
       → Grew s s' a → Grew s' s'' b → Settled rows count s₀ s'' (a + b)
@@ -59,9 +60,9 @@ module _ (rows : List ℕ) (count : ℕ) where
       let two : Within s' s'' = rw f (within-swept rows false count count s') in
       record {
         within = within-trans (h .within) (within-trans one two);
-        sound = λ t n start q.
-            rw f (sound-swept rows t n start count false count (omega arith)
-            (rw e (sound-swept rows t n start count true count (omega arith) (h .sound t n start q))));
+        sound = λ head l q.
+            rw f (sound-swept rows head count l false count (omega arith)
+            (rw e (sound-swept rows head count l true count (omega arith) (h .sound head l q))));
         closed = λ z. let w = k .still (omega arith) in ap (swept rows false count count) w ∙ sym f;
       }
 
@@ -140,45 +141,45 @@ length-begun t start =
 closed-as : {s : List ℕ} (M M' : ℕ) (γ γ' : List ℕ) → M ≡ M' → γ ≡ γ' → Closed s M' γ' → Closed s M γ
 closed-as M M' γ γ' e f h = rw (e, f) h
 
-module _ (rows : List ℕ) (t n start count : ℕ) (few : t ≤ maxTerminals) (low : start < symbolSpace) where
-  pub known-settled : {s : List ℕ} → Settled rows count (begun t start) s 0 → Known (grammarIn rows t n start count) s
+module _ (rows : List ℕ) (head : Head) (few : head .t ≤ maxTerminals) (low : head .start < symbolSpace) where
+  pub known-settled : {s : List ℕ} → Settled rows (head .count) (begun (head .t) (head .start)) s 0 → Known (grammarIn rows head) s
   unfolding grammarIn begun
   known-settled {s} h =
       record {
         long = long;
-        sound = h .sound t n start (sound-begun few low);
+        sound = h .sound head (omega arith) (sound-begun few low);
         full =
             record {
-              closed = λ p M γ r. let q = rule-row rows t n start count r in closed-as M (leftAt rows (q .row)) γ (bodyAt rows (q .row)) (q .left) (q .body) (closed-swept rows false count s long (h .closed refl) (q .row) (q .low));
-              self = λ a w. h .within .bits a a (token-bits t base lb few a (w .0) (w .1) .0);
-              token = λ a w. h .within .bits (marks + a) 0 (token-bits t base lb few a (w .0) (w .1) .1);
-              ends = h .within .bits (follows + start) 0 (within-tokens t base .bits (follows + start) 0 ends);
-              root = h .within .bits (marks + start) 1 (within-tokens t base .bits (marks + start) 1 root);
+              closed = λ p M γ r. let q = rule-row rows head r in closed-as M (leftAt rows (q .row)) γ (bodyAt rows (q .row)) (q .left) (q .body) (closed-swept rows false (head .count) s long (h .closed refl) (q .row) (q .low));
+              self = λ a w. h .within .bits a a (token-bits (head .t) base lb few a (w .0) (w .1) .0);
+              token = λ a w. h .within .bits (marks + a) 0 (token-bits (head .t) base lb few a (w .0) (w .1) .1);
+              ends = h .within .bits (follows + head .start) 0 (within-tokens (head .t) base .bits (follows + head .start) 0 ends);
+              root = h .within .bits (marks + head .start) 1 (within-tokens (head .t) base .bits (marks + head .start) 1 root);
             };
       }
     where
       first : List ℕ
-      first = raised (zeros setsSize) (follows + start) 1
+      first = raised (zeros setsSize) (follows + head .start) 1
 
       base : List ℕ
-      base = raised first (marks + start) 2
+      base = raised first (marks + head .start) 2
 
       lf : length first ≡ setsSize
-      lf = within-raised (zeros setsSize) (follows + start) 1 .long ∙ length-zeros setsSize
+      lf = within-raised (zeros setsSize) (follows + head .start) 1 .long ∙ length-zeros setsSize
 
       lb : length base ≡ setsSize
-      lb = within-raised first (marks + start) 2 .long ∙ lf
+      lb = within-raised first (marks + head .start) 2 .long ∙ lf
 
       long : length s ≡ setsSize
-      long = h .within .long ∙ within-tokens t base .long ∙ lb
+      long = h .within .long ∙ within-tokens (head .t) base .long ∙ lb
 
-      ends : Has (getD base (follows + start) 0) 0
-      ends = within-raised first (marks + start) 2 .bits (follows + start) 0 (has-raised (zeros setsSize) (follows + start) 1 0 (omega (arith, length-zeros setsSize)) (one-has 0))
+      ends : Has (getD base (follows + head .start) 0) 0
+      ends = within-raised first (marks + head .start) 2 .bits (follows + head .start) 0 (has-raised (zeros setsSize) (follows + head .start) 1 0 (omega (arith, length-zeros setsSize)) (one-has 0))
 
-      root : Has (getD base (marks + start) 0) 1
-      root = has-raised first (marks + start) 2 1 (omega (arith, lf)) (one-has 1)
+      root : Has (getD base (marks + head .start) 0) 1
+      root = has-raised first (marks + head .start) 2 1 (omega (arith, lf)) (one-has 1)
 
 -- from the beginning to the end
-pub known-from : (rows : List ℕ) (t start count : ℕ) (b s : List ℕ) → t ≤ maxTerminals → start < symbolSpace → b ≡ begun t start → Settled rows count b s 0
-    → (n : ℕ) → Known (grammarIn rows t n start count) s
-known-from rows t start count b s few low e h n = known-settled rows t n start count few low (rw e at h)
+pub known-from : (rows : List ℕ) (head : Head) (b s : List ℕ) → head .t ≤ maxTerminals → head .start < symbolSpace → b ≡ begun (head .t) (head .start)
+    → Settled rows (head .count) b s 0 → Known (grammarIn rows head) s
+known-from rows head b s few low e h = known-settled rows head few low (rw e at h)

@@ -1,8 +1,9 @@
 // The sets of a grammar, by rounds over its productions until nothing changes: which symbols may derive nothing, FIRST, FOLLOW, which are
 // productive and which are reachable. Each symbol has three words of bits (specs/Words.antt).
 
+use grammar::Head;
 ghost use mathlib.Core.Path.{_≡_};
-ghost use Prim.Native.Nat.{ℕ, _+_, _*_, _<_, _≤_};
+ghost use Prim.Native.Nat.{_+_, _*_, _<_, _≤_};
 ghost use lib.ListN.{length};
 ghost use Rattle.base.specs.Blocks.{zeros};
 ghost use Rattle.grammar.specs.Limits.{maxTerminals, maxProductions};
@@ -155,11 +156,11 @@ fn settle(rows: &[u8], count: usize, sets: &mut [u32])
 }
 
 // The sets of the grammar in the rows.
-pub fn analyse(rows: &[u8], t: usize, start: usize, count: usize, sets: &mut [u32])
-    requires { ⌜ (t ≤ maxTerminals) × (start < symbolSpace) × (count ≤ maxProductions) × (length (now sets) ≡ setsSize) ⌝ }
-    ensures { λ _. ⌜ ((n : ℕ) → Known (grammarIn (now (rows .entry)) t n start count) (now (sets .exit))) ⌝ }
+pub fn analyse(rows: &[u8], head: Head, sets: &mut [u32])
+    requires { ⌜ (head .t ≤ maxTerminals) × (head .start < symbolSpace) × (head .count ≤ maxProductions) × (length (now sets) ≡ setsSize) ⌝ }
+    ensures { λ _. ⌜ Known (grammarIn (now (rows .entry)) head) (now (sets .exit)) ⌝ }
 {
     clear(sets);
-    begin(t, start, sets);
-    settle(rows, count, sets);
+    begin(head.t, head.start, sets);
+    settle(rows, head.count, sets);
 }

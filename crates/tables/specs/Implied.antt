@@ -11,6 +11,7 @@ use Rattle.grammar.specs.Limits.{maxTerminals, maxNonterminals, columns}
 use Rattle.grammar.specs.Grammar.{Grammar}
 use Rattle.grammar.specs.Prediction.{Highest, Break, not-first, both-first, may-vanish, no-break, Prepared}
 use Rattle.grammar.specs.Rows.{grammarIn}
+use Rattle.grammar.specs.declared.Head.{Head}
 use Rattle.sets.specs.Closures.{Begin, begin-first, first-begin}
 use Rattle.sets.specs.Known.{Known}
 use Rattle.predictions.specs.Hits.{hasb}
@@ -47,86 +48,86 @@ apart {M} {N} {u} {v} e f g m = go (subst (List·Memᴰ M) e m)
 alone : {M N : ℕ} {u : List ℕ} → u ≡ N ∷ [] → (M ≡ N → ⊥) → List·Memᴰ M u → ⊥
 alone e f = apart e f (λ i. elim i [ ])
 
-module _ (rows : List ℕ) (t n start count : ℕ) (s : List ℕ) (known : Known (grammarIn rows t n start count) s) (ok : Prepared (grammarIn rows t n start count))
-    (cells : List ℕ) (listed : Listed rows s t count cells 0)
-    (steps : List ℕ) (filled : (R a : ℕ) → R < n → a < t + 1 → getD steps (R * columns + a) 0 ≡ stepOf rows s cells t (R * columns + a)) where
+module _ (rows : List ℕ) (head : Head) (s : List ℕ) (known : Known (grammarIn rows head) s) (ok : Prepared (grammarIn rows head))
+    (cells : List ℕ) (listed : Listed rows s (head .t) (head .count) cells 0)
+    (steps : List ℕ) (filled : (R a : ℕ) → R < head .n → a < head .t + 1 → getD steps (R * columns + a) 0 ≡ stepOf rows s cells (head .t) (R * columns + a)) where
   abbrev G : Grammar
-  G = grammarIn rows t n start count
+  G = grammarIn rows head
 
-  few : t ≤ maxTerminals
+  few : head .t ≤ maxTerminals
   unfolding grammarIn
   few = ok .formed .head .terminals .1
 
-  some-n : n ≤ maxNonterminals
+  some-n : head .n ≤ maxNonterminals
   unfolding grammarIn
   some-n = ok .formed .head .nonterminals .1
 
   -- the stem of a row's symbol, from the symbol below on
   record Below (a R : ℕ) (u : List ℕ) : Type 0 where
     rest : List ℕ
-    is : u ≡ (t + 1 + R) ∷ rest
+    is : u ≡ (head .t + 1 + R) ∷ rest
     path : Path G a (stepAt steps (R * columns + a)) rest
 
-  below : {a : ℕ} {u : List ℕ} (R : ℕ) → Path G a (t + 1 + R) u → Below a R u
+  below : {a : ℕ} {u : List ℕ} (R : ℕ) → Path G a (head .t + 1 + R) u → Below a R u
   unfolding next
   below R h = go refl h
     where
-      go : {a M : ℕ} {u : List ℕ} → M ≡ t + 1 + R → Path G a M u → Below a R u
-      go e (p-end w) = absurd (omega (arith, terminal-of rows t n start count s known ok cells listed w .1))
+      go : {a M : ℕ} {u : List ℕ} → M ≡ head .t + 1 + R → Path G a M u → Below a R u
+      go e (p-end w) = absurd (omega (arith, terminal-of rows head s known ok cells listed w .1))
       go e (p-down {M = M} {s = v} α β r q c k) =
-          let z : M - t - 1 ≡ R = omega arith in
-          record { rest = v; is = ap (λ (x : ℕ). x ∷ v) e; path = rw z at (next-path rows t n start count s known ok cells listed steps filled α β r q c k) }
+          let z : M - head .t - 1 ≡ R = omega arith in
+          record { rest = v; is = ap (λ (x : ℕ). x ∷ v) e; path = rw z at (next-path rows head s known ok cells listed steps filled α β r q c k) }
 
   -- a symbol on a stem is the terminal at its end, or has a row
-  terminal-path : {a x : ℕ} {u : List ℕ} → x ≤ t → Path G a x u → (x ≡ a) × (u ≡ a ∷ [])
+  terminal-path : {a x : ℕ} {u : List ℕ} → x ≤ head .t → Path G a x u → (x ≡ a) × (u ≡ a ∷ [])
   terminal-path l (p-end w) = (refl, refl)
-  terminal-path l (p-down α β r q c k) = absurd (omega (arith, row-of rows t n start count s known ok cells listed r .0))
+  terminal-path l (p-down α β r q c k) = absurd (omega (arith, row-of rows head s known ok cells listed r .0))
 
-  row-path : {a x : ℕ} {u : List ℕ} → t < x → Path G a x u → x ≤ t + n
-  row-path l (p-end w) = absurd (omega (arith, terminal-of rows t n start count s known ok cells listed w .1))
-  row-path l (p-down α β r q c k) = row-of rows t n start count s known ok cells listed r .1
+  row-path : {a x : ℕ} {u : List ℕ} → head .t < x → Path G a x u → x ≤ head .t + head .n
+  row-path l (p-end w) = absurd (omega (arith, terminal-of rows head s known ok cells listed w .1))
+  row-path l (p-down α β r q c k) = row-of rows head s known ok cells listed r .1
 
   some-path : {a x : ℕ} {u : List ℕ} → Path G a x u → 0 < x
-  some-path (p-end w) = terminal-of rows t n start count s known ok cells listed w .0
-  some-path (p-down α β r q c k) = omega (arith, row-of rows t n start count s known ok cells listed r .0)
+  some-path (p-end w) = terminal-of rows head s known ok cells listed w .0
+  some-path (p-down α β r q c k) = omega (arith, row-of rows head s known ok cells listed r .0)
 
   -- ---- a step is 0 exactly where the symbol does not begin with a
 
-  step-none : (R a : ℕ) → stepAt steps (R * columns + a) ≡ 0 → Begin G a ((t + 1 + R) ∷ []) → ⊥
+  step-none : (R a : ℕ) → stepAt steps (R * columns + a) ≡ 0 → Begin G a ((head .t + 1 + R) ∷ []) → ⊥
   step-none R a e b = let h = below R (begin-path b .1) in omega (arith, some-path (h .path))
 
-  step-some : (R a : ℕ) → R < n → a < t + 1 → (stepAt steps (R * columns + a) ≡ 0 → ⊥) → Begin G a ((t + 1 + R) ∷ [])
+  step-some : (R a : ℕ) → R < head .n → a < head .t + 1 → (stepAt steps (R * columns + a) ≡ 0 → ⊥) → Begin G a ((head .t + 1 + R) ∷ [])
   unfolding stepOf
   step-some R a l m f =
       let zq : (R * columns + a) / columns ≡ R = omega (arith, few) in
       let za : (R * columns + a) % columns ≡ a = omega (arith, few) in
-      choose-of (λ v. v ≡ getD steps (R * columns + a) 0 → Begin G a ((t + 1 + R) ∷ [])) (eqb ((R * columns + a) % columns) 0) _ _
+      choose-of (λ v. v ≡ getD steps (R * columns + a) 0 → Begin G a ((head .t + 1 + R) ∷ [])) (eqb ((R * columns + a) % columns) 0) _ _
       (λ e q. absurd (f (omega (arith, q))))
-      (λ e. choose-of (λ v. v ≡ getD steps (R * columns + a) 0 → Begin G a ((t + 1 + R) ∷ [])) (hasb (getD s (t + 1 + (R * columns + a) / columns) 0) ((R * columns + a) % columns)) _ _
-      (λ g q. begin-known rows t n start count s known ok cells listed (t + 1 + R) a (omega (arith, few, some-n)) (omega (arith, eqb-false ((R * columns + a) % columns) 0 e)) (rw (zq, za) at g))
+      (λ e. choose-of (λ v. v ≡ getD steps (R * columns + a) 0 → Begin G a ((head .t + 1 + R) ∷ [])) (hasb (getD s (head .t + 1 + (R * columns + a) / columns) 0) ((R * columns + a) % columns)) _ _
+      (λ g q. begin-known rows head s known ok cells listed (head .t + 1 + R) a (omega (arith, few, some-n)) (omega (arith, eqb-false ((R * columns + a) % columns) 0 e)) (rw (zq, za) at g))
       (λ g q. absurd (f (omega (arith, q)))))
       (sym (filled R a l m))
 
-  module _ (w : List ℕ) (a : ℕ) (small : a < t + 1) where
+  module _ (w : List ℕ) (a : ℕ) (small : a < head .t + 1) where
     abbrev cell : ℕ → ℕ → ℕ
     cell R Q = getD w (breakPlace R Q a) 0
 
-    module _ (R Q : ℕ) (lR : R < n) (lQ : Q < n) {u u' : List ℕ} (h : Path G a (t + 1 + R) u) (h' : Path G a (t + 1 + Q) u')
-        (hM : (x : ℕ) (v : List ℕ) → x < n → Path G a (t + 1 + x) v → u ≡ (t + 1 + R) ∷ v → Highest (cell x Q) v u')
-        (hN : (y : ℕ) (v : List ℕ) → y < n → Path G a (t + 1 + y) v → u' ≡ (t + 1 + Q) ∷ v → Highest (cell R y) u v) where
-      down-highest : (List·Memᴰ (t + 1 + R) u' → ⊥) → Highest (downOf steps t w R Q a) u u'
+    module _ (R Q : ℕ) (lR : R < head .n) (lQ : Q < head .n) {u u' : List ℕ} (h : Path G a (head .t + 1 + R) u) (h' : Path G a (head .t + 1 + Q) u')
+        (hM : (x : ℕ) (v : List ℕ) → x < head .n → Path G a (head .t + 1 + x) v → u ≡ (head .t + 1 + R) ∷ v → Highest (cell x Q) v u')
+        (hN : (y : ℕ) (v : List ℕ) → y < head .n → Path G a (head .t + 1 + y) v → u' ≡ (head .t + 1 + Q) ∷ v → Highest (cell R y) u v) where
+      down-highest : (List·Memᴰ (head .t + 1 + R) u' → ⊥) → Highest (downOf steps (head .t) w R Q a) u u'
       unfolding downOf
       down-highest apart =
           let b = below R h in
-          subst (λ (l : List ℕ). Highest (downOf steps t w R Q a) l u') (sym (b .is)) (highest-down apart
-          (choose-of (λ v. Highest v (b .rest) u') (leb (stepAt steps (R * columns + a)) t) _ _
-          (λ e. let q = terminal-path (leb-true (stepAt steps (R * columns + a)) t e) (b .path) in
-          rw (q .0, q .1) (highest-top (last-of rows t n start count s known ok cells listed steps filled h')))
-          (λ e. let l = leb-false (stepAt steps (R * columns + a)) t e in
-          let z : t + 1 + (stepAt steps (R * columns + a) - t - 1) ≡ stepAt steps (R * columns + a) = omega arith in
-          hM (stepAt steps (R * columns + a) - t - 1) (b .rest) (omega (arith, row-path l (b .path))) (rw z (b .path)) (b .is))))
+          subst (λ (l : List ℕ). Highest (downOf steps (head .t) w R Q a) l u') (sym (b .is)) (highest-down apart
+          (choose-of (λ v. Highest v (b .rest) u') (leb (stepAt steps (R * columns + a)) (head .t)) _ _
+          (λ e. let q = terminal-path (leb-true (stepAt steps (R * columns + a)) (head .t) e) (b .path) in
+          rw (q .0, q .1) (highest-top (last-of rows head s known ok cells listed steps filled h')))
+          (λ e. let l = leb-false (stepAt steps (R * columns + a)) (head .t) e in
+          let z : head .t + 1 + (stepAt steps (R * columns + a) - head .t - 1) ≡ stepAt steps (R * columns + a) = omega arith in
+          hM (stepAt steps (R * columns + a) - head .t - 1) (b .rest) (omega (arith, row-path l (b .path))) (rw z (b .path)) (b .is))))
 
-      meet-highest : Highest (meetOf steps t w R Q a) u u'
+      meet-highest : Highest (meetOf steps (head .t) w R Q a) u u'
       unfolding meetOf
       meet-highest =
           let b = below R h in
@@ -136,19 +137,19 @@ module _ (rows : List ℕ) (t n start count : ℕ) (s : List ℕ) (known : Known
           let k : u ≡ u' = unique (single ok) h (rw (← q) at h') in
           rw (← k, b .is) (highest-top (List·Memᴰ·head refl)))
           (λ e. let d = eqb-false R Q e in
-          choose-of (λ v. Highest v u u') (leb (stepAt steps (Q * columns + a)) t) _ _
-          (λ l. let q = terminal-path (leb-true (stepAt steps (Q * columns + a)) t l) (b' .path) in
-          down-highest (apart (b' .is) (λ z. d (omega arith)) (alone (q .1) (λ z. omega (arith, leb-true (stepAt steps (Q * columns + a)) t l, q .0)))))
-          (λ l. let k = leb-false (stepAt steps (Q * columns + a)) t l in
-          let z : t + 1 + (stepAt steps (Q * columns + a) - t - 1) ≡ stepAt steps (Q * columns + a) = omega arith in
-          let g = hN (stepAt steps (Q * columns + a) - t - 1) (b' .rest) (omega (arith, row-path k (b' .path))) (rw z (b' .path)) (b' .is) in
-          choose-of (λ v. Highest v u u') (eqb (cell R (stepAt steps (Q * columns + a) - t - 1)) (t + 1 + R)) _ _
-          (λ f. let q : cell R (stepAt steps (Q * columns + a) - t - 1) ≡ t + 1 + R = eqb-true _ _ f in
+          choose-of (λ v. Highest v u u') (leb (stepAt steps (Q * columns + a)) (head .t)) _ _
+          (λ l. let q = terminal-path (leb-true (stepAt steps (Q * columns + a)) (head .t) l) (b' .path) in
+          down-highest (apart (b' .is) (λ z. d (omega arith)) (alone (q .1) (λ z. omega (arith, leb-true (stepAt steps (Q * columns + a)) (head .t) l, q .0)))))
+          (λ l. let k = leb-false (stepAt steps (Q * columns + a)) (head .t) l in
+          let z : head .t + 1 + (stepAt steps (Q * columns + a) - head .t - 1) ≡ stepAt steps (Q * columns + a) = omega arith in
+          let g = hN (stepAt steps (Q * columns + a) - head .t - 1) (b' .rest) (omega (arith, row-path k (b' .path))) (rw z (b' .path)) (b' .is) in
+          choose-of (λ v. Highest v u u') (eqb (cell R (stepAt steps (Q * columns + a) - head .t - 1)) (head .t + 1 + R)) _ _
+          (λ f. let q : cell R (stepAt steps (Q * columns + a) - head .t - 1) ≡ head .t + 1 + R = eqb-true _ _ f in
           rw (b .is, b' .is) (highest-top (List·Memᴰ·tail (rw q at (g .shared)))))
           (λ f. down-highest (apart (b' .is) (λ z. d (omega arith)) (λ i. eqb-false _ _ f (highest-one g (rw (b .is) (highest-top i))))))))
 
       -- of the two stems the break point is what the code finds, where both begin with a
-      implied-both : impliedOf s steps t w R (Q * columns + a) ≡ meetOf steps t w R Q a
+      implied-both : impliedOf s steps (head .t) w R (Q * columns + a) ≡ meetOf steps (head .t) w R Q a
       unfolding impliedOf choose
       implied-both =
           let zq : (Q * columns + a) / columns ≡ Q = omega (arith, few, small) in
@@ -156,18 +157,18 @@ module _ (rows : List ℕ) (t n start count : ℕ) (s : List ℕ) (known : Known
           rw (zq, za, ne-eqb (stepAt steps (Q * columns + a)) 0 (λ e. step-none Q a e (path-begin h')), ne-eqb (stepAt steps (R * columns + a)) 0 (λ e. step-none R a e (path-begin h)))
 
     -- what is implied where all below is right, is right
-    implied-break : (R Q : ℕ) → R < n → Q < n → ((u u' : List ℕ) → Path G a (t + 1 + R) u → Path G a (t + 1 + Q) u' → Highest (meetOf steps t w R Q a) u u')
-        → Break G (t + 1 + R) (t + 1 + Q) a (impliedOf s steps t w R (Q * columns + a))
+    implied-break : (R Q : ℕ) → R < head .n → Q < head .n → ((u u' : List ℕ) → Path G a (head .t + 1 + R) u → Path G a (head .t + 1 + Q) u' → Highest (meetOf steps (head .t) w R Q a) u u')
+        → Break G (head .t + 1 + R) (head .t + 1 + Q) a (impliedOf s steps (head .t) w R (Q * columns + a))
     unfolding impliedOf
     implied-break R Q lR lQ f =
         let zq : (Q * columns + a) / columns ≡ Q = omega (arith, few) in
         let za : (Q * columns + a) % columns ≡ a = omega (arith, few) in
         rw (zq, za)
-        (choose-of (Break G (t + 1 + R) (t + 1 + Q) a) (eqb (stepAt steps (Q * columns + a)) 0) _ _
+        (choose-of (Break G (head .t + 1 + R) (head .t + 1 + Q) a) (eqb (stepAt steps (Q * columns + a)) 0) _ _
         (λ e. not-first (λ g. step-none Q a (eqb-true (stepAt steps (Q * columns + a)) 0 e) (first-begin g)))
         (λ e. let bQ = step-some Q a lQ small (eqb-false (stepAt steps (Q * columns + a)) 0 e) in
-        choose-of (Break G (t + 1 + R) (t + 1 + Q) a) (eqb (stepAt steps (R * columns + a)) 0) _ _
-        (λ d. behind rows t n start count s known ok cells listed (t + 1 + R) (t + 1 + Q) a (omega (arith, few, some-n)) (begin-first bQ)
+        choose-of (Break G (head .t + 1 + R) (head .t + 1 + Q) a) (eqb (stepAt steps (R * columns + a)) 0) _ _
+        (λ d. behind rows head s known ok cells listed (head .t + 1 + R) (head .t + 1 + Q) a (omega (arith, few, some-n)) (begin-first bQ)
         (λ g. step-none R a (eqb-true (stepAt steps (R * columns + a)) 0 d) (first-begin g)))
         (λ d. let bR = step-some R a lR small (eqb-false (stepAt steps (R * columns + a)) 0 d) in
         let x = begin-path bR in
@@ -176,17 +177,17 @@ module _ (rows : List ℕ) (t n start count : ℕ) (s : List ℕ) (known : Known
 
     -- ---- bytes that imply themselves are right
 
-    module _ (told : (R Q : ℕ) → R < n → Q < n → cell R Q ≡ impliedOf s steps t w R (Q * columns + a)) where
-      told-highest : (k R Q : ℕ) {u u' : List ℕ} → R < n → Q < n → Path G a (t + 1 + R) u → Path G a (t + 1 + Q) u' → length u + length u' ≤ k → Highest (cell R Q) u u'
+    module _ (told : (R Q : ℕ) → R < head .n → Q < head .n → cell R Q ≡ impliedOf s steps (head .t) w R (Q * columns + a)) where
+      told-highest : (k R Q : ℕ) {u u' : List ℕ} → R < head .n → Q < head .n → Path G a (head .t + 1 + R) u → Path G a (head .t + 1 + Q) u' → length u + length u' ≤ k → Highest (cell R Q) u u'
       told-highest zero R Q lR lQ h h' l = absurd (omega (arith, ap length (below R h .is)))
       told-highest (suc k) R Q {u} {u'} lR lQ h h' l =
-          let hM : (x : ℕ) (v : List ℕ) → x < n → Path G a (t + 1 + x) v → u ≡ (t + 1 + R) ∷ v → Highest (cell x Q) v u' =
+          let hM : (x : ℕ) (v : List ℕ) → x < head .n → Path G a (head .t + 1 + x) v → u ≡ (head .t + 1 + R) ∷ v → Highest (cell x Q) v u' =
           λ x v lx p e. told-highest k x Q lx lQ p h' (omega (arith, ap length e)) in
-          let hN : (y : ℕ) (v : List ℕ) → y < n → Path G a (t + 1 + y) v → u' ≡ (t + 1 + Q) ∷ v → Highest (cell R y) u v =
+          let hN : (y : ℕ) (v : List ℕ) → y < head .n → Path G a (head .t + 1 + y) v → u' ≡ (head .t + 1 + Q) ∷ v → Highest (cell R y) u v =
           λ y v ly p e. told-highest k R y lR ly h p (omega (arith, ap length e)) in
           rw (told R Q lR lQ ∙ implied-both R Q lR lQ h h' hM hN) (meet-highest R Q lR lQ h h' hM hN)
 
-      pub told-break : (R Q : ℕ) → R < n → Q < n → Break G (t + 1 + R) (t + 1 + Q) a (cell R Q)
+      pub told-break : (R Q : ℕ) → R < head .n → Q < head .n → Break G (head .t + 1 + R) (head .t + 1 + Q) a (cell R Q)
       told-break R Q lR lQ =
           rw (told R Q lR lQ) (implied-break R Q lR lQ (λ u u' h h'. meet-highest R Q lR lQ h h'
           (λ x v lx p e. told-highest (length v + length u') x Q lx lQ p h' (omega arith))
@@ -200,8 +201,8 @@ module _ (rows : List ℕ) (t n start count : ℕ) (s : List ℕ) (known : Known
     break-highest (may-vanish f g k k') h h' = absurd (g (begin-first (path-begin h)))
     break-highest (no-break f g k) h h' = absurd (g (begin-first (path-begin h)))
 
-    pub right-told : ((R Q : ℕ) → R < n → Q < n → Break G (t + 1 + R) (t + 1 + Q) a (cell R Q)) → (R Q : ℕ) → R < n → Q < n
-        → cell R Q ≡ impliedOf s steps t w R (Q * columns + a)
+    pub right-told : ((R Q : ℕ) → R < head .n → Q < head .n → Break G (head .t + 1 + R) (head .t + 1 + Q) a (cell R Q)) → (R Q : ℕ) → R < head .n → Q < head .n
+        → cell R Q ≡ impliedOf s steps (head .t) w R (Q * columns + a)
     right-told right R Q lR lQ =
         break-one ok (right R Q lR lQ) (implied-break R Q lR lQ (λ u u' h h'. meet-highest R Q lR lQ h h'
         (λ x v lx p e. break-highest (right x Q lx lQ) p h')

@@ -19,6 +19,7 @@ use Rattle.grammar.specs.Rules.{rule-left}
 use Rattle.grammar.specs.Prediction.{by-first, Highest, Break, not-first, both-first, may-vanish, no-break, Prepared}
 use Rattle.grammar.specs.Rows.{symbolSpace, lengthAt, grammarIn, symbols-small, left-small}
 use Rattle.grammar.specs.RowRules.{bodyAt, rule-at, rule-row}
+use Rattle.grammar.specs.declared.Head.{Head}
 use Rattle.sets.specs.Words.{follows}
 use Rattle.sets.specs.Closures.{Vanish, v-nil, vanish-join, Begin, b-here, b-rule, b-skip, begin-left, begin-right, begin-terminal, begin-first, first-begin, follow-after, after-follow}
 use Rattle.sets.specs.Known.{Known, known-null, known-first, known-after}
@@ -43,31 +44,31 @@ record Led (G : Grammar) (a : ℕ) (xs : List ℕ) (x : ℕ) : Type 0 where
   gone : Vanish G front
   begins : Begin G a (x ∷ [])
 
-module _ (rows : List ℕ) (t n start count : ℕ) (s : List ℕ) (known : Known (grammarIn rows t n start count) s) (ok : Prepared (grammarIn rows t n start count))
-    (cells : List ℕ) (listed : Listed rows s t count cells 0) where
+module _ (rows : List ℕ) (head : Head) (s : List ℕ) (known : Known (grammarIn rows head) s) (ok : Prepared (grammarIn rows head))
+    (cells : List ℕ) (listed : Listed rows s (head .t) (head .count) cells 0) where
   abbrev G : Grammar
-  G = grammarIn rows t n start count
+  G = grammarIn rows head
 
-  few : t ≤ maxTerminals
+  few : head .t ≤ maxTerminals
   unfolding grammarIn
   few = ok .formed .head .terminals .1
 
   small-t : G .t < symbolSpace
   small-t = omega (arith, ok .formed .head .terminals .1)
 
-  some-n : n ≤ maxNonterminals
+  some-n : head .n ≤ maxNonterminals
   unfolding grammarIn
   some-n = ok .formed .head .nonterminals .1
 
   rule-small : (p M : ℕ) (γ : List ℕ) → Rule G p M γ → M < symbolSpace
-  rule-small p M γ r = let q = rule-row rows t n start count r in rw (q .left) (left-small rows (q .row))
+  rule-small p M γ r = let q = rule-row rows head r in rw (q .left) (left-small rows (q .row))
 
-  pub terminal-of : {a : ℕ} → Terminal G a → (0 < a) × (a ≤ t)
+  pub terminal-of : {a : ℕ} → Terminal G a → (0 < a) × (a ≤ head .t)
   unfolding grammarIn
   terminal-of w = (omega (arith, w .0), w .1)
 
   -- a rule's left side has a row
-  pub row-of : {p M : ℕ} {γ : List ℕ} → Rule G p M γ → (t < M) × (M ≤ t + n)
+  pub row-of : {p M : ℕ} {γ : List ℕ} → Rule G p M γ → (head .t < M) × (M ≤ head .t + head .n)
   unfolding grammarIn
   row-of r = let q = rule-left (ok .formed) r in (q .0, q .1)
 
@@ -102,15 +103,15 @@ module _ (rows : List ℕ) (t n start count : ℕ) (s : List ℕ) (known : Known
   path-small (p-end w) = omega (arith, terminal-of w .1, few)
   path-small (p-down {p = p} {M = M} {γ = γ} α β r e v h) = rule-small p M γ r
 
-  cell-step : {a p M v : ℕ} {γ : List ℕ} → a < columns → 0 < a → Rule G p M γ → Begin G a γ → Cell rows s count M a v → Led G a γ (lead s a (bodyAt rows (v - 1)))
-  cell-step {a} {p} {M} {v} {γ} k w r b c = go v c (predicts-hit rows t n start count s known (ok .formed) (by-first r (begin-first b)))
+  cell-step : {a p M v : ℕ} {γ : List ℕ} → a < columns → 0 < a → Rule G p M γ → Begin G a γ → Cell rows s (head .count) M a v → Led G a γ (lead s a (bodyAt rows (v - 1)))
+  cell-step {a} {p} {M} {v} {γ} k w r b c = go v c (predicts-hit rows head s known (ok .formed) (by-first r (begin-first b)))
     where
-      go : (v : ℕ) → Cell rows s count M a v → ((q : ℕ) × (p ≡ suc q) × (q < count) × Hit rows s q M a) → Led G a γ (lead s a (bodyAt rows (v - 1)))
+      go : (v : ℕ) → Cell rows s (head .count) M a v → ((q : ℕ) × (p ≡ suc q) × (q < head .count) × Hit rows s q M a) → Led G a γ (lead s a (bodyAt rows (v - 1)))
       go zero (empty f) (q, e, l, h) = absurd (f q l h)
       go (suc j) (full l h) (q, e, i, h') =
           let z : suc j - 1 ≡ j = omega arith in
-          let rj : Rule G (suc j) M (bodyAt rows j) = rw (h .left) at (rule-at rows t n start count j l) in
-          let cj : Chosen G a M (bodyAt rows j) = rw (h .left) at (hit-exactly rows t n start count s known j a .0 (h .has)) in
+          let rj : Rule G (suc j) M (bodyAt rows j) = rw (h .left) at (rule-at rows head j l) in
+          let cj : Chosen G a M (bodyAt rows j) = rw (h .left) at (hit-exactly rows head s known j a .0 (h .has)) in
           let y : p ≡ suc j = single ok .same a M p (suc j) γ (bodyAt rows j) r rj (by-begin b) cj in
           let x : γ ≡ bodyAt rows j = rule-body (single ok) y r rj in
           rw (z, x) (lead-led a (bodyAt rows j) w (symbols-small rows j (lengthAt rows j) 0) (rw x at b))
@@ -123,21 +124,21 @@ module _ (rows : List ℕ) (t n start count : ℕ) (s : List ℕ) (known : Known
       let d : q .0 ≡ u = cc in
       rw d at (q .1)
 
-  module _ (steps : List ℕ) (filled : (R a : ℕ) → R < n → a < t + 1 → getD steps (R * columns + a) 0 ≡ stepOf rows s cells t (R * columns + a)) where
-    pub next-path : {a M x : ℕ} {u γ : List ℕ} {p : ℕ} (α β : List ℕ) → Rule G p M γ → γ ≡ α ++ x ∷ β → Vanish G α → Path G a x u → Path G a (next steps t a M) u
+  module _ (steps : List ℕ) (filled : (R a : ℕ) → R < head .n → a < head .t + 1 → getD steps (R * columns + a) 0 ≡ stepOf rows s cells (head .t) (R * columns + a)) where
+    pub next-path : {a M x : ℕ} {u γ : List ℕ} {p : ℕ} (α β : List ℕ) → Rule G p M γ → γ ≡ α ++ x ∷ β → Vanish G α → Path G a x u → Path G a (next steps (head .t) a M) u
     unfolding next stepOf choose
     next-path {a} {M} {x} {u} {γ} {p} α β r e v h =
         let b : Begin G a γ = rw e (begin-right v (begin-left β (path-begin h))) in
         let w = terminal-of (begin-terminal b) in
         let m = row-of r in
-        let i : ℕ = (M - t - 1) * columns + a in
-        let zi : i / columns ≡ M - t - 1 = omega (arith, few) in
+        let i : ℕ = (M - head .t - 1) * columns + a in
+        let zi : i / columns ≡ M - head .t - 1 = omega (arith, few) in
         let za : i % columns ≡ a = omega (arith, few) in
-        let zm : t + 1 + (M - t - 1) ≡ M = omega arith in
+        let zm : head .t + 1 + (M - head .t - 1) ≡ M = omega arith in
         let hm : hasb (getD s M 0) a ≡ true = has-hasb (getD s M 0) a (known-first known M a (rule-small p M γ r) (w .0) .1 (begin-first (b-rule r b))) in
-        let c : Cell rows s count M a (getD cells i 0) = rw zm at (listed .cell (M - t - 1) a (omega (arith, some-n)) (omega (arith, few))) in
+        let c : Cell rows s (head .count) M a (getD cells i 0) = rw zm at (listed .cell (M - head .t - 1) a (omega (arith, some-n)) (omega (arith, few))) in
         let f : getD steps i 0 ≡ lead s a (bodyAt rows (getD cells i 0 - 1)) =
-        filled (M - t - 1) a (omega (arith, m .0, m .1)) (omega (arith, w .1)) ∙ rw (za, zi, zm, ne-eqb a 0 (omega arith), hm)
+        filled (M - head .t - 1) a (omega (arith, m .0, m .1)) (omega (arith, w .1)) ∙ rw (za, zi, zm, ne-eqb a 0 (omega arith), hm)
         in
         let k = down-path α β r e v h (lead s a (bodyAt rows (getD cells i 0 - 1))) (cell-step (omega (arith, few)) (w .0) r b c) in
         let l : lead s a (bodyAt rows (getD cells i 0 - 1)) % symbolSpace ≡ lead s a (bodyAt rows (getD cells i 0 - 1)) = omega (arith, path-small k) in
@@ -145,7 +146,7 @@ module _ (rows : List ℕ) (t n start count : ℕ) (s : List ℕ) (known : Known
 
     -- ---- the symbols of a stem as bits
 
-    bits-in : {a x : ℕ} {u : List ℕ} (k acc y : ℕ) → Path G a x u → length u ≤ k → Has acc y ⊎ List·Memᴰ y u → Has (stemBits steps t a k x acc) y
+    bits-in : {a x : ℕ} {u : List ℕ} (k acc y : ℕ) → Path G a x u → length u ≤ k → Has acc y ⊎ List·Memᴰ y u → Has (stemBits steps (head .t) a k x acc) y
     unfolding stemBits choose
     bits-in zero acc y h l m = absurd (go h l)
       where
@@ -153,30 +154,30 @@ module _ (rows : List ℕ) (t n start count : ℕ) (s : List ℕ) (known : Known
         go (p-end w) l = omega arith
         go (p-down α β r e v h) l = omega arith
     bits-in {a} (suc k) acc y (p-end w) l m =
-        rw (le-leb a t (terminal-of w .1)) (pick m)
+        rw (le-leb a (head .t) (terminal-of w .1)) (pick m)
       where
         pick : Has acc y ⊎ List·Memᴰ y (a ∷ []) → Has (bitOr acc (2 ^ a)) y
         pick (inl h) = has-or-left acc (2 ^ a) y h
         pick (inr (List·Memᴰ·head e)) = has-or-right acc (2 ^ a) y (rw e (one-has a))
         pick (inr (List·Memᴰ·tail e)) = elim e [ ]
     bits-in {a} (suc k) acc y (p-down {M = M} {s = u} α β r e v h) l m =
-        rw (lt-leb M t (row-of r .0)) (bits-in k (bitOr acc (2 ^ M)) y (next-path α β r e v h) (omega arith) (pick m))
+        rw (lt-leb M (head .t) (row-of r .0)) (bits-in k (bitOr acc (2 ^ M)) y (next-path α β r e v h) (omega arith) (pick m))
       where
         pick : Has acc y ⊎ List·Memᴰ y (M ∷ u) → Has (bitOr acc (2 ^ M)) y ⊎ List·Memᴰ y u
         pick (inl q) = inl (has-or-left acc (2 ^ M) y q)
         pick (inr (List·Memᴰ·head q)) = inl (has-or-right acc (2 ^ M) y (rw q (one-has M)))
         pick (inr (List·Memᴰ·tail q)) = inr q
 
-    bits-out : {a x : ℕ} {u : List ℕ} (k acc y : ℕ) → Path G a x u → Has (stemBits steps t a k x acc) y → Has acc y ⊎ List·Memᴰ y u
+    bits-out : {a x : ℕ} {u : List ℕ} (k acc y : ℕ) → Path G a x u → Has (stemBits steps (head .t) a k x acc) y → Has acc y ⊎ List·Memᴰ y u
     unfolding stemBits choose
     bits-out zero acc y h q = inl q
-    bits-out {a} (suc k) acc y (p-end w) q = pick (or-has acc (2 ^ a) y (rw (le-leb a t (terminal-of w .1)) at q))
+    bits-out {a} (suc k) acc y (p-end w) q = pick (or-has acc (2 ^ a) y (rw (le-leb a (head .t) (terminal-of w .1)) at q))
       where
         pick : Has acc y ⊎ Has (2 ^ a) y → Has acc y ⊎ List·Memᴰ y (a ∷ [])
         pick (inl h) = inl h
         pick (inr h) = inr (List·Memᴰ·head (has-one a y h))
     bits-out {a} (suc k) acc y (p-down {M = M} {s = u} α β r e v h) q =
-        pick (bits-out k (bitOr acc (2 ^ M)) y (next-path α β r e v h) (rw (lt-leb M t (row-of r .0)) at q))
+        pick (bits-out k (bitOr acc (2 ^ M)) y (next-path α β r e v h) (rw (lt-leb M (head .t) (row-of r .0)) at q))
       where
         pick2 : Has acc y ⊎ Has (2 ^ M) y → Has acc y ⊎ List·Memᴰ y (M ∷ u)
         pick2 (inl g) = inl g
@@ -193,7 +194,7 @@ module _ (rows : List ℕ) (t n start count : ℕ) (s : List ℕ) (known : Known
     last-of (p-down α β r e v h) = List·Memᴰ·tail (last-of h)
 
     shared-highest : {a x : ℕ} {u : List ℕ} (u' : List ℕ) (mask k : ℕ) → ((y : ℕ) → Has mask y ↔ List·Memᴰ y u') → List·Memᴰ a u' → Path G a x u → length u ≤ k
-        → Highest (sharedFrom steps t a mask k x) u u'
+        → Highest (sharedFrom steps (head .t) a mask k x) u u'
     unfolding sharedFrom
     shared-highest {a} {x} u' mask zero bits m h l = absurd (go h l)
       where
@@ -222,7 +223,7 @@ module _ (rows : List ℕ) (t n start count : ℕ) (s : List ℕ) (known : Known
 
     -- ---- the break point
 
-    pub point : (M N a mask : ℕ) → M < symbolSpace → N < symbolSpace → a < columns → mask ≡ stemBits steps t a symbolSpace N 0 → Break G M N a (pointOf s steps t M N a mask)
+    pub point : (M N a mask : ℕ) → M < symbolSpace → N < symbolSpace → a < columns → mask ≡ stemBits steps (head .t) a symbolSpace N 0 → Break G M N a (pointOf s steps (head .t) M N a mask)
     unfolding pointOf
     point M N a mask lM lN k em =
         choose-of (Break G M N a) (eqb a 0) _ _ (λ e. not-first (λ f. omega (arith, eqb-true a 0 e, f .0 .0)))

@@ -1,6 +1,7 @@
 // The tables of a grammar: predictions, then break points. For a fixed lookahead the stems form a tree, so that each symbol has one step down;
 // the symbols of a stem are the bits of a mask, and the highest shared symbol is the first on one stem that is in the other's mask.
 // Lent tables are tested without masks: a break point follows from those one step down either stem.
+use grammar::Head;
 ghost use mathlib.Core.Path.{_≡_};
 ghost use Prim.Native.Nat.{_+_, _-_, _*_, _<_, _≤_};
 ghost use lib.ListN.{length, drop};
@@ -416,39 +417,21 @@ fn holds(
 }
 
 // Writes the tables of the grammar in the rows, which passes replies 1 to 3; `sets` are its words and `cells` its predictions.
-pub fn write_tables(
-    rows: &[u8],
-    t: usize,
-    n: usize,
-    start: usize,
-    count: usize,
-    sets: &[u32],
-    cells: &[u8],
-    tables: &mut [u8],
-)
-    requires { ⌜ Ready (now rows) t n start count (now sets) (now cells) × (length (now tables) ≡ tablesSize) ⌝ }
-    ensures { λ _. ⌜ Tables (grammarIn (now (rows .entry)) t n start count) (now (tables .exit)) ⌝ }
+pub fn write_tables(rows: &[u8], head: Head, sets: &[u32], cells: &[u8], tables: &mut [u8])
+    requires { ⌜ Ready (now rows) head (now sets) (now cells) × (length (now tables) ≡ tablesSize) ⌝ }
+    ensures { λ _. ⌜ Tables (grammarIn (now (rows .entry)) head) (now (tables .exit)) ⌝ }
 {
     let mut steps = [0u8; PREDICTIONS_SIZE];
     let mut masks = [0u64; PREDICTIONS_SIZE];
-    fill_steps(rows, sets, cells, t, n, &mut steps);
-    fill_masks(&steps, t, n, &mut masks);
-    lay(sets, cells, &steps, &masks, t, n, tables);
+    fill_steps(rows, sets, cells, head.t, head.n, &mut steps);
+    fill_masks(&steps, head.t, head.n, &mut masks);
+    lay(sets, cells, &steps, &masks, head.t, head.n, tables);
 }
 
 // Whether the bytes are what `write_tables` writes.
-pub fn is_prepared(
-    rows: &[u8],
-    t: usize,
-    n: usize,
-    start: usize,
-    count: usize,
-    sets: &[u32],
-    cells: &[u8],
-    tables: &[u8],
-) -> bool
-    requires { ⌜ Ready (now rows) t n start count (now sets) (now cells) ⌝ }
-    ensures { λ r. ⌜ Tells (Tables (grammarIn (now (rows .entry)) t n start count) (now (tables .entry))) r ⌝ }
+pub fn is_prepared(rows: &[u8], head: Head, sets: &[u32], cells: &[u8], tables: &[u8]) -> bool
+    requires { ⌜ Ready (now rows) head (now sets) (now cells) ⌝ }
+    ensures { λ r. ⌜ Tells (Tables (grammarIn (now (rows .entry)) head) (now (tables .entry))) r ⌝ }
 {
     if tables.len() != TABLES_SIZE {
         return false;
@@ -456,7 +439,17 @@ pub fn is_prepared(
     let mut steps = [0u8; PREDICTIONS_SIZE];
     let mut live = [0u16; PREDICTIONS_SIZE];
     let mut row = [0u8; ROW_SIZE];
-    fill_steps(rows, sets, cells, t, n, &mut steps);
-    let k = list_live(&steps, t, n, &mut live);
-    holds(sets, cells, &steps, &live, k, t, n, tables, &mut row)
+    fill_steps(rows, sets, cells, head.t, head.n, &mut steps);
+    let k = list_live(&steps, head.t, head.n, &mut live);
+    holds(
+        sets,
+        cells,
+        &steps,
+        &live,
+        k,
+        head.t,
+        head.n,
+        tables,
+        &mut row,
+    )
 }

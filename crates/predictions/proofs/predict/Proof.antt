@@ -9,10 +9,10 @@ use Rattle.predictions.proofs.predict.Statement.{statement}
 use Rattle.predictions.proofs.predict.Tie as tie
 
 abbrev Inv-loop : tie.InvT-loop
-Inv-loop rows t count sets cells₀ low₀ p₀ cells low p = (length sets ≡ setsSize) × (length cells ≡ cellsSize) × (t ≤ maxTerminals) × (count ≤ maxProductions) × (p ≤ count) × Rowed rows t count × Listed rows sets t p cells low
+Inv-loop rows head sets cells₀ low₀ p₀ cells low p = (length sets ≡ setsSize) × (length cells ≡ cellsSize) × (head .t ≤ maxTerminals) × (head .count ≤ maxProductions) × (p ≤ head .count) × Rowed rows (head .t) (head .count) × Listed rows sets (head .t) p cells low
 
 abbrev μ-loop : tie.MeasureT-loop
-μ-loop rows t count sets cells₀ low₀ p₀ cells low p = count - p
+μ-loop rows head sets cells₀ low₀ p₀ cells low p = head .count - p
 
 loop-holds : tie.Need-loop-holds Inv-loop μ-loop
 loop-holds c = (search needs, search needs, search needs, search needs, search needs, search needs, listed-none _ _ _ _ (c .before .before .before .pre .2))
@@ -30,16 +30,16 @@ cast-list-row : tie.Need-cast-list-row Inv-loop μ-loop
 cast-list-row c = search needs
 
 sub-list-row : tie.Need-sub-list-row Inv-loop μ-loop
-sub-list-row c = let h = c .before .before .before .loop .inv .5 _ (c .before .before .loop-test .taken) in search needs
+sub-list-row c = let h = c .before .before .before .before .before .loop .inv .5 _ (c .before .before .before .if1 .taken) in search needs
 
 sub-list-row-2 : tie.Need-sub-list-row-2 Inv-loop μ-loop
-sub-list-row-2 c = let h = c .before .before .before .loop .inv .5 _ (c .before .before .loop-test .taken) in search needs
+sub-list-row-2 c = let h = c .before .before .before .before .before .loop .inv .5 _ (c .before .before .before .if1 .taken) in search needs
 
 mul-list-row : tie.Need-mul-list-row Inv-loop μ-loop
-mul-list-row c = let h = c .before .before .before .loop .inv .5 _ (c .before .before .loop-test .taken) in search needs
+mul-list-row c = let h = c .before .before .before .before .before .loop .inv .5 _ (c .before .before .before .if1 .taken) in search needs
 
 list-row-requires : tie.Need-list-row-requires Inv-loop μ-loop
-list-row-requires c κs = let h = c .before .before .before .before .loop .inv .5 _ (c .before .before .before .loop-test .taken) in search needs
+list-row-requires c κs = let s = c .before .before .before .before in let h = s .before .before .loop .inv .5 _ (s .if1 .taken) in search needs
 
 lower-requires : tie.Need-lower-requires Inv-loop μ-loop
 lower-requires c κs = search needs
@@ -51,7 +51,7 @@ loop-less : tie.Need-loop-less Inv-loop μ-loop
 loop-less c = search needs
 
 loop-again : tie.Need-loop-again Inv-loop μ-loop
-loop-again c = let h = c .before .before .before .before .before .before .before .before .loop .inv .5 _ (c .before .before .before .before .before .before .before .loop-test .taken) in (search needs, search needs, search needs, search needs, search needs, search needs, rw (c .lower .ensures) (listed-more _ _ _ _ _ _ _ _ _ _ (c .before .before .before .before .before .before .left-at .ensures .0) (c .before .before .before .before .before .predictors .ensures) (search needs) (search needs) (c .before .before .before .before .before .before .before .before .loop .inv .6) (c .before .before .before .list-row .ensures)))
+loop-again c = let s = c .before .before .before .before .before .before in let h = s .before .before .before .before .loop .inv .5 _ (s .before .before .if1 .taken) in (search needs, search needs, search needs, search needs, search needs, search needs, rw (c .lower .ensures) (listed-more _ _ _ _ _ _ _ _ _ _ (s .before .left-at .ensures .0) (s .predictors .ensures) (search needs) (search needs) (s .before .before .before .before .loop .inv .6) (c .before .before .before .list-row .ensures)))
 
 same-length : tie.Need-same-length Inv-loop μ-loop
 same-length c = search needs

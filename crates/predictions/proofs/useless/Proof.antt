@@ -9,16 +9,16 @@ use Rattle.predictions.proofs.useless.Statement.{statement}
 use Rattle.predictions.proofs.useless.Tie as tie
 
 abbrev Inv-loop : tie.InvT-loop
-Inv-loop sets t n x₀ x = (length sets ≡ setsSize) × (t ≤ maxTerminals) × (n ≤ maxNonterminals) × (t ≤ x) × (x ≤ t + n) × BusyTo sets t x
+Inv-loop sets head x₀ x = (length sets ≡ setsSize) × (head .t ≤ maxTerminals) × (head .n ≤ maxNonterminals) × (head .t ≤ x) × (x ≤ head .t + head .n) × BusyTo sets (head .t) x
 
 abbrev μ-loop : tie.MeasureT-loop
-μ-loop sets t n x₀ x = t + n - x
+μ-loop sets head x₀ x = head .t + head .n - x
 
 loop-holds : tie.Need-loop-holds Inv-loop μ-loop
 loop-holds c = search (idling, needs)
 
-add-loop : tie.Need-add-loop Inv-loop μ-loop
-add-loop c = search needs
+add-if1 : tie.Need-add-if1 Inv-loop μ-loop
+add-if1 c = search needs
 
 add-mark : tie.Need-add-mark Inv-loop μ-loop
 add-mark c = search needs
@@ -57,7 +57,7 @@ useless-spec =
     Inv-loop
     μ-loop
     loop-holds
-    add-loop
+    add-if1
     add-mark
     add-mark-2
     mul-mark

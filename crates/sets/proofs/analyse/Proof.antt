@@ -17,7 +17,7 @@ same-length : tie.Need-same-length
 same-length c = search needs
 
 returns : tie.Need-returns
-returns c = known-from _ _ _ _ _ _ (search needs) (search needs) (c .before .before .before .before .before .before .begin .ensures) (c .before .before .settle .ensures)
+returns c = known-from _ _ _ _ (search needs) (search needs) (c .before .before .before .before .before .before .begin .ensures) (c .before .before .settle .ensures)
 
 pub analyse-spec : {M : Type 1} → statement M
 analyse-spec =

@@ -10,7 +10,7 @@ slice-aggregate-fill-steps : tie.Need-slice-aggregate-fill-steps
 slice-aggregate-fill-steps c = search needs
 
 fill-steps-requires : tie.Need-fill-steps-requires
-fill-steps-requires c κs = let r = c .before .before .before .before .before .before .pre in let h = ready-few _ _ _ _ _ _ _ r in let l = r .known .long in let m = r .listed .long in search needs
+fill-steps-requires c κs = let r = c .before .before .before .before .before .before .pre in let h = ready-few _ _ _ _ r in let l = r .known .long in let m = r .listed .long in search needs
 
 slice-aggregate-list-live : tie.Need-slice-aggregate-list-live
 slice-aggregate-list-live c = search needs
@@ -19,7 +19,7 @@ slice-aggregate-list-live-2 : tie.Need-slice-aggregate-list-live-2
 slice-aggregate-list-live-2 c = search needs
 
 list-live-requires : tie.Need-list-live-requires
-list-live-requires c κs = let r = c .before .before .before .before .before .before .before .before .before .before .pre in let h = ready-few _ _ _ _ _ _ _ r in let l = r .known .long in let m = r .listed .long in search needs
+list-live-requires c κs = let r = c .before .before .before .before .before .before .before .before .before .before .pre in let h = ready-few _ _ _ _ r in let l = r .known .long in let m = r .listed .long in search needs
 
 slice-aggregate-holds : tie.Need-slice-aggregate-holds
 slice-aggregate-holds c = search needs
@@ -31,10 +31,10 @@ slice-aggregate-holds-3 : tie.Need-slice-aggregate-holds-3
 slice-aggregate-holds-3 c = search needs
 
 holds-requires : tie.Need-holds-requires
-holds-requires c κs = let r = c .before .before .before .before .before .before .before .before .before .before .before .before .before .before .before .pre in let h = ready-few _ _ _ _ _ _ _ r in let l = r .known .long in let m = r .listed .long in (search needs, search needs, search needs, search needs, search needs, search needs, search needs, c .before .before .before .before .list-live .ensures .0)
+holds-requires c κs = let s = c .before .before .before .before in let r = s .before .before .before .before .before .before .before .before .before .before .before .pre in let h = ready-few _ _ _ _ r in let l = r .known .long in let m = r .listed .long in (search needs, search needs, search needs, search needs, search needs, search needs, search needs, s .list-live .ensures .0)
 
 returns-2 : tie.Need-returns-2
-returns-2 c = told-tables _ _ _ _ _ _ _ (c .before .before .before .before .before .before .before .before .before .before .before .before .before .before .before .before .before .pre) _ _ (c .before .before .before .before .before .before .before .before .before .before .fill-steps .ensures) _ _ (c .before .holds .ensures)
+returns-2 c = let s = c .before .before .before .before .before .before .before .before .before .before in told-tables _ _ _ _ (s .before .before .before .before .before .before .before .pre) _ _ (s .fill-steps .ensures) _ _ (c .before .holds .ensures)
 
 pub is-prepared-spec : {M : Type 1} → statement M
 is-prepared-spec =
