@@ -8,6 +8,7 @@ use native.Mathlib.Omega.{arith}
 use Rattle.base.specs.Bytes.{byteAt}
 use Rattle.base.specs.Blocks.{copied}
 use Rattle.grammar.specs.Rows.{grammarIn}
+use Rattle.grammar.specs.declared.Head.{Head}
 use Rattle.trees.specs.Coded.{nodeSize}
 use Rattle.plain.specs.Plain.{accepted, syntax, noRoom, Parses}
 use Rattle.plain.specs.Tokens.{tokenSize, tokenAt, tokensFrom}
@@ -45,7 +46,7 @@ tokens-front b b' (suc k) (suc m) (suc r) i e h =
     cc
 
 -- the first r of m lent tokens stand in w'
-module _ (rows : List ℕ) (t n start count : ℕ) (table b : List ℕ) (m : ℕ) (g : Ground rows t n start count table b m) (S r : ℕ) (w w' : List ℕ) (e : r ≡ min m (S + 1))
+module _ (rows : List ℕ) (head : Head) (table b : List ℕ) (m : ℕ) (g : Ground rows head table b m) (S r : ℕ) (w w' : List ℕ) (e : r ≡ min m (S + 1))
     (room : nodeSize * S + tokenSize * (S + 1) ≤ length w) (c : w' ≡ copied w (nodeSize * S) (take (tokenSize * r - 0) (drop 0 b))) where
   front-long : length (take (tokenSize * r) b) ≡ tokenSize * r
   front-long = length-take-le (tokenSize * r) b (omega (arith, e, g .long))
@@ -60,7 +61,7 @@ module _ (rows : List ℕ) (t n start count : ℕ) (table b : List ℕ) (m : ℕ
   front-byte j l = rw is-front (getD-take (tokenSize * r) b j 0 l)
 
   -- what their parse asks for
-  pub ground-front : Ground rows t n start count table (textIn S r w') r
+  pub ground-front : Ground rows head table (textIn S r w') r
   ground-front =
       record {
         prepared = g .prepared;
@@ -73,9 +74,9 @@ module _ (rows : List ℕ) (t n start count : ℕ) (table b : List ℕ) (m : ℕ
   are-front = tokens-front b (textIn S r w') (suc S) m r 0 (omega (arith, e)) (λ j l. front-byte j (omega arith))
 
   -- and what it says of them all
-  pub ran-front : {v : List ℕ} {x : Parsed} → 1 ≤ S → Ran (grammarIn rows t n start count) S (textIn S r w') r v x → Ran (grammarIn rows t n start count) S b m v x
+  pub ran-front : {v : List ℕ} {x : Parsed} → 1 ≤ S → Ran (grammarIn rows head) S (textIn S r w') r v x → Ran (grammarIn rows head) S b m v x
   ran-front l (ran-done {o = o} d) =
-      let p : Parses (grammarIn rows t n start count) S (take (suc S) (tokensFrom b m 0)) (accepted o) = rw are-front at (d .parses) in
+      let p : Parses (grammarIn rows head) S (take (suc S) (tokensFrom b m 0)) (accepted o) = rw are-front at (d .parses) in
       ran-done (record {
         parses = cut-run (tokensFrom b m 0) (accepted o) l p;
         lists = d .lists;

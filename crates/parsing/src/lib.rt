@@ -1,4 +1,5 @@
 // The parse of lent tokens: as many of them as it can look at are put where the plain parse reads its tokens.
+use grammar::Head;
 use plain::Parsed;
 ghost use Prim.Native.Nat.{_+_, _*_, _≤_};
 ghost use lib.ListN.{length};
@@ -14,15 +15,12 @@ pub fn parse_lent(
     m: usize,
     tables: &[u8],
     rows: &[u8],
-    t: usize,
-    n: usize,
-    start: usize,
-    count: usize,
+    head: Head,
     slots: usize,
     work: &mut [u8],
 ) -> Parsed
-    requires { ⌜ Ground (now rows) t n start count (now tables) (now tokens) m × (1 ≤ slots) × (slots ≤ maxSlots) × (parseSize slots (slots + 1) ≤ length (now work)) ⌝ }
-    ensures { λ r. ⌜ Ran (grammarIn (now (rows .entry)) t n start count) slots (now (tokens .entry)) m (now (work .exit)) r ⌝ }
+    requires { ⌜ Ground (now rows) head (now tables) (now tokens) m × (1 ≤ slots) × (slots ≤ maxSlots) × (parseSize slots (slots + 1) ≤ length (now work)) ⌝ }
+    ensures { λ r. ⌜ Ran (grammarIn (now (rows .entry)) head) slots (now (tokens .entry)) m (now (work .exit)) r ⌝ }
 {
     let r = base::least(m, slots + 1);
     base::copy(
@@ -30,5 +28,5 @@ pub fn parse_lent(
         trees::NODE_SIZE * slots,
         &tokens[0..plain::TOKEN_SIZE * r],
     );
-    plain::parse(r, tables, rows, t, n, start, count, slots, work)
+    plain::parse(r, tables, rows, head, slots, work)
 }

@@ -11,8 +11,9 @@ use Rattle.grammar.specs.Limits.{endMark, columns}
 use Rattle.grammar.specs.Each.{Each, each-tail}
 use Rattle.grammar.specs.Grammar.{Grammar, Rule, Terminal}
 use Rattle.grammar.specs.Prediction.{Predicts, by-first, by-follow, Prepared}
-use Rattle.grammar.specs.Rows.{leftAt, grammarIn, rowsOf, rows-grammar}
+use Rattle.grammar.specs.Rows.{leftAt, grammarIn, rowsOf, headOf, rows-grammar}
 use Rattle.grammar.specs.Forest.{Token, kinds}
+use Rattle.grammar.specs.declared.Head.{Head}
 use Rattle.sets.specs.Decidable.{analysed}
 use Rattle.predictions.specs.Hits.{predictors, Hit}
 use Rattle.predictions.specs.Verdict.{predictor-small, predicts-hit, hit-predicts}
@@ -38,16 +39,16 @@ hit? rows s M a p =
 abbrev Decided : Grammar → Type 0
 Decided G = Prepared G → (M a : ℕ) → Dec ((p : ℕ) × Predicts G M a p)
 
-decided : (rows : List ℕ) (t n start count : ℕ) → Decided (grammarIn rows t n start count)
-decided rows t n start count g M a =
-    let k = analysed (grammarIn rows t n start count) (g .formed) in
-    by-cases (any? (hit? rows (k .0) M a) count)
-    (λ h. yes (suc (h .0), hit-predicts rows t n start count (k .0) (k .1) (g .formed) (g .useful) (h .1) (h .2)))
-    (λ m. no (λ x. let q = predicts-hit rows t n start count (k .0) (k .1) (g .formed) (x .1) in m (q .0, q .2, q .3)))
+decided : (rows : List ℕ) (head : Head) → Decided (grammarIn rows head)
+decided rows head g M a =
+    let k = analysed (grammarIn rows head) (g .formed) in
+    by-cases (any? (hit? rows (k .0) M a) (head .count))
+    (λ h. yes (suc (h .0), hit-predicts rows head (k .0) (k .1) (g .formed) (g .useful) (h .1) (h .2)))
+    (λ m. no (λ x. let q = predicts-hit rows head (k .0) (k .1) (g .formed) (x .1) in m (q .0, q .2, q .3)))
 
 module _ {G : Grammar} (g : Prepared G) where
   pub predicted? : (M a : ℕ) → Dec ((p : ℕ) × Predicts G M a p)
-  predicted? = subst Decided (rows-grammar G (g .formed)) (decided (rowsOf (G .productions)) (G .t) (G .n) (G .start) (length (G .productions))) g
+  predicted? = subst Decided (rows-grammar G (g .formed)) (decided (rowsOf (G .productions)) (headOf G)) g
 
   -- ---- and so is what is expected
 

@@ -25,6 +25,7 @@ use Rattle.grammar.specs.Rules.{rule-allowed}
 use Rattle.grammar.specs.Prediction.{Predicts, by-first, by-follow, Prepared}
 use Rattle.grammar.specs.Rows.{lengthAt, symbolAt, symbolsFrom, grammarIn}
 use Rattle.grammar.specs.RowRules.{bodyAt, RowOf, rule-row}
+use Rattle.grammar.specs.declared.Head.{Head}
 use Rattle.predictions.specs.Verdict.{predictor-small}
 use Rattle.tables.specs.Tables.{Prediction, some, none, Tables}
 use Rattle.trees.specs.Nodes.{Node, Lists, leavesOf}
@@ -101,11 +102,11 @@ pub record Begun (w w' : List ℕ) (p x : ℕ) : Type 0 where
   pub long : p + 1 ≡ length w
 
 -- what stands while a parse runs: the grammar in the rows passes replies 1 to 3, the tables are its tables, and the bytes b are m good tokens
-pub record Ground (rows : List ℕ) (t n start count : ℕ) (table b : List ℕ) (m : ℕ) : Type 0 where
-  pub prepared : Prepared (grammarIn rows t n start count)
-  pub tables : Tables (grammarIn rows t n start count) table
+pub record Ground (rows : List ℕ) (head : Head) (table b : List ℕ) (m : ℕ) : Type 0 where
+  pub prepared : Prepared (grammarIn rows head)
+  pub tables : Tables (grammarIn rows head) table
   pub long : length b ≡ tokenSize * m
-  pub kinds : Kinds t b m
+  pub kinds : Kinds (head .t) b m
 
 -- o nodes are written, k tokens matched, and the symbols from p on are left
 pub record At (G : Grammar) (S : ℕ) (b : List ℕ) (m : ℕ) (w : List ℕ) (p o k : ℕ) : Type 0 where
@@ -153,15 +154,15 @@ pushed rows w w₁ w' j d r q e l m u lw h =
         let z : suc (d + i) ≡ d + (i + 1) = omega arith in
         rw (z, u .inside i (omega arith), go k (i + 1) (omega arith)) at (drop-cons w₁ (d + i) 0 (omega (arith, u .long)))
 
-module _ (rows : List ℕ) (t n start count : ℕ) (table b : List ℕ) (m : ℕ) (g : Ground rows t n start count table b m) where
+module _ (rows : List ℕ) (head : Head) (table b : List ℕ) (m : ℕ) (g : Ground rows head table b m) where
   abbrev G : Grammar
-  G = grammarIn rows t n start count
+  G = grammarIn rows head
 
-  pub few : t ≤ maxTerminals
+  pub few : head .t ≤ maxTerminals
   unfolding grammarIn
   few = g .prepared .formed .head .terminals .1
 
-  pub start-small : start < 256
+  pub start-small : head .start < 256
   unfolding grammarIn
   start-small = omega (arith, few, g .prepared .formed .head .nonterminals .1, g .prepared .formed .head .start .1)
 
@@ -181,23 +182,23 @@ module _ (rows : List ℕ) (t n start count : ℕ) (table b : List ℕ) (m : ℕ
   predicted-rule (by-first {γ = γ} r f) = (γ, r)
   predicted-rule (by-follow {γ = γ} r f v) = (γ, r)
 
-  predicted-row : {M c p : ℕ} (x : Predicts G M c p) → RowOf rows count p M (predicted-rule x .0)
-  predicted-row x = rule-row rows t n start count (predicted-rule x .1)
+  predicted-row : {M c p : ℕ} (x : Predicts G M c p) → RowOf rows (head .count) p M (predicted-rule x .0)
+  predicted-row x = rule-row rows head (predicted-rule x .1)
 
   small-ahead : {M c p : ℕ} → Predicts G M c p → c < columns
   small-ahead x = predictor-small (g .prepared .formed .head .terminals .1) x
 
   module _ (S : ℕ) where
-    pub at-start : (w w' : List ℕ) (p : ℕ) → Begun w w' p start → At G S b m w' p 0 0
+    pub at-start : (w w' : List ℕ) (p : ℕ) → Begun w w' p (head .start) → At G S b m w' p 0 0
     unfolding grammarIn
     at-start w w' p u =
-        let l : p + 1 ≡ length w' = u .long ∙ sym (ap length (u .is) ∙ length-set w p start) in
-        let x : byteAt w' p ≡ start = ap (λ (v : List ℕ). byteAt v p) (u .is) ∙ getD-set-same w p start 0 (omega (arith, u .long)) in
-        let e : drop p w' ≡ start ∷ [] = drop-cons w' p 0 (omega arith) ∙ rw (x, drop-of-length-le w' {i = suc p} (omega arith)) in
+        let l : p + 1 ≡ length w' = u .long ∙ sym (ap length (u .is) ∙ length-set w p (head .start)) in
+        let x : byteAt w' p ≡ head .start = ap (λ (v : List ℕ). byteAt v p) (u .is) ∙ getD-set-same w p (head .start) 0 (omega (arith, u .long)) in
+        let e : drop p w' ≡ head .start ∷ [] = drop-cons w' p 0 (omega arith) ∙ rw (x, drop-of-length-le w' {i = suc p} (omega arith)) in
         let q : 0 + (length w' - p) ≡ 1 = omega arith in
         let z : m - 0 ≡ m = omega arith in
         let x = g .prepared .formed .head .start in
-        let y : SymbolOf t n start = (omega (arith, x .0), x .1) in
+        let y : SymbolOf (head .t) (head .n) (head .start) = (omega (arith, x .0), x .1) in
         record {
           parsing = rw (e, q, z) parsing-start;
           symbols = rw e (Each.cons y Each.nil);
@@ -209,11 +210,11 @@ module _ (rows : List ℕ) (t n start count : ℕ) (table b : List ℕ) (m : ℕ
       opened : drop p w ≡ M ∷ drop (p + 1) w
       opened = let q : suc p ≡ p + 1 = omega arith in rw (q, ← eM) at (drop-cons w p 0 lp)
 
-      top-symbol : SymbolOf t n M
+      top-symbol : SymbolOf (head .t) (head .n) M
       unfolding grammarIn
       top-symbol = go (rw opened at (h .symbols))
         where
-          go : {x : ℕ} {xs : List ℕ} → Each (SymbolOf t n) (x ∷ xs) → SymbolOf t n x
+          go : {x : ℕ} {xs : List ℕ} → Each (SymbolOf (head .t) (head .n)) (x ∷ xs) → SymbolOf (head .t) (head .n) x
           go (Each.cons y ys) = y
 
       others : Each (SymbolOf (G .t) (G .n)) (drop (p + 1) w)
@@ -230,7 +231,7 @@ module _ (rows : List ℕ) (t n start count : ℕ) (table b : List ℕ) (m : ℕ
 
       -- ---- a terminal on top
 
-      module _ (lM : M ≤ t) where
+      module _ (lM : M ≤ head .t) where
         terminal : Terminal G M
         unfolding grammarIn
         terminal = (top-symbol .0, lM)
@@ -283,17 +284,17 @@ module _ (rows : List ℕ) (t n start count : ℕ) (table b : List ℕ) (m : ℕ
 
       -- ---- a nonterminal on top
 
-      module _ (lM : t < M) (q : ℕ) (eq : q ≡ byteAt table ((M - t - 1) * columns + a)) where
-        pub low-row : M - t - 1 < maxNonterminals
+      module _ (lM : head .t < M) (q : ℕ) (eq : q ≡ byteAt table ((M - head .t - 1) * columns + a)) where
+        pub low-row : M - head .t - 1 < maxNonterminals
         unfolding grammarIn
         low-row = omega (arith, top-symbol .1, g .prepared .formed .head .nonterminals .1)
 
         -- what the tables have for M
-        cell : (c : ℕ) → c < columns → Prediction G M c (byteAt table ((M - t - 1) * columns + c))
+        cell : (c : ℕ) → c < columns → Prediction G M c (byteAt table ((M - head .t - 1) * columns + c))
         unfolding grammarIn
         cell c l =
-            let x : t + 1 + (M - t - 1) ≡ M = omega arith in
-            rw x at (g .tables .prediction (M - t - 1) c low-row l)
+            let x : head .t + 1 + (M - head .t - 1) ≡ M = omega arith in
+            rw x at (g .tables .prediction (M - head .t - 1) c low-row l)
 
         own : Prediction G M (ahead (tokensFrom b (m - k) k)) q
         own = rw (← seen, eq) (cell a (rw ea (ahead-small k lk)))
@@ -303,7 +304,7 @@ module _ (rows : List ℕ) (t n start count : ℕ) (table b : List ℕ) (m : ℕ
         no-terminal y = omega (arith, y .1)
 
         -- nothing is predicted
-        pub at-none : q ≡ 0 → (e : ℕ) → Lit table (M - t - 1) e → Parses G S (tokensFrom b m 0) (syntax k e)
+        pub at-none : q ≡ 0 → (e : ℕ) → Lit table (M - head .t - 1) e → Parses G S (tokensFrom b m 0) (syntax k e)
         at-none z e u = here .run (syntax k e) (stuck (λ x. nothing x refl refl) (record { small = u .small; all = λ c x. shown x refl; only = λ c x. back c (u .only c x) }))
           where
             none-at : {c v : ℕ} → Prediction G M c v → v ≡ 0 → (p : ℕ) → Predicts G M c p → ⊥
@@ -328,7 +329,7 @@ module _ (rows : List ℕ) (t n start count : ℕ) (table b : List ℕ) (m : ℕ
             found (none f) n = absurd (n refl)
             found (some x) n = prediction x
 
-            back : (c : ℕ) → (c < columns) × (byteAt table ((M - t - 1) * columns + c) ≡ 0 → ⊥) → Expects G (M ∷ drop (p + 1) w) c
+            back : (c : ℕ) → (c < columns) × (byteAt table ((M - head .t - 1) * columns + c) ≡ 0 → ⊥) → Expects G (M ∷ drop (p + 1) w) c
             back c x = found (cell c (x .0)) (x .1)
 
         -- a production is
@@ -340,10 +341,10 @@ module _ (rows : List ℕ) (t n start count : ℕ) (table b : List ℕ) (m : ℕ
               go (none f) n = absurd (n refl)
               go (some x) n = x
 
-          row-of : (q - 1 < count) × Rule G q M (bodyAt rows (q - 1))
+          row-of : (q - 1 < head .count) × Rule G q M (bodyAt rows (q - 1))
           row-of =
               let r = predicted-rule predicted in
-              let x = rule-row rows t n start count (r .1) in
+              let x = rule-row rows head (r .1) in
               let z : q - 1 ≡ x .row = omega (arith, x .number) in
               (omega (arith, x .number, x .low), rw (z, ← x .body) (r .1))
 

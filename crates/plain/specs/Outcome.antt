@@ -8,6 +8,7 @@ use native.Mathlib.Omega.{arith}
 use Rattle.base.specs.Bytes.{byteAt, Bytes}
 use Rattle.base.specs.Choose.{never}
 use Rattle.grammar.specs.Grammar.{Grammar}
+use Rattle.grammar.specs.declared.Head.{Head}
 use Rattle.plain.specs.Plain.{syntax, noRoom, Parses}
 use Rattle.plain.specs.Tokens.{tokenSize, tokensFrom, Sentence, Kinds, BadToken, sentence-of, bad-token}
 use Rattle.plain.specs.Machine.{Ground, At, Done, Going}
@@ -88,7 +89,7 @@ pub ruleset turns = (turned-long, turned-low, turned-room, turned-matched, turne
 -- ---- over the same bytes
 
 module _ {b b' : List ℕ} (e : b' ≡ b) where
-  pub ground-same : {rows : List ℕ} {t n start count : ℕ} {table : List ℕ} {m : ℕ} → Ground rows t n start count table b m → Ground rows t n start count table b' m
+  pub ground-same : {rows : List ℕ} {head : Head} {table : List ℕ} {m : ℕ} → Ground rows head table b m → Ground rows head table b' m
   ground-same h = rw e h
 
   pub at-same : {G : Grammar} {S m : ℕ} {w : List ℕ} {p o k : ℕ} → At G S b m w p o k → At G S b' m w p o k

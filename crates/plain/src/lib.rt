@@ -1,4 +1,5 @@
 // The plain parse: one loop over a stack in the lent work area, which writes the node list. Each turn takes one symbol off the stack and writes one node.
+use grammar::Head;
 ghost use mathlib.Core.Path.{_≡_};
 ghost use Prim.Native.Nat.{_+_, _-_, _*_, _<_, _≤_};
 ghost use lib.ListN.{length};
@@ -95,18 +96,15 @@ fn step(
     m: usize,
     tables: &[u8],
     rows: &[u8],
-    t: usize,
-    n: usize,
-    start: usize,
-    count: usize,
+    head: Head,
     slots: usize,
     work: &mut [u8],
     o: usize,
     p: usize,
     k: usize,
 ) -> Turn
-    requires { ⌜ Ground (now rows) t n start count (now tables) (textIn slots m (now work)) m × (slots ≤ maxSlots) × (parseSize slots m ≤ length (now work)) × (o < slots) × (p ≤ length (now work)) × (o + (length (now work) - p) ≤ slots) × (k ≤ m) × At (grammarIn (now rows) t n start count) slots (textIn slots m (now work)) m (now work) p o k ⌝ }
-    ensures { λ r. ⌜ Turned (grammarIn (now (rows .entry)) t n start count) slots (textIn slots m (now (work .entry))) m (now (work .entry)) (now (work .exit)) o r × (textIn slots m (now (work .exit)) ≡ textIn slots m (now (work .entry))) ⌝ }
+    requires { ⌜ Ground (now rows) head (now tables) (textIn slots m (now work)) m × (slots ≤ maxSlots) × (parseSize slots m ≤ length (now work)) × (o < slots) × (p ≤ length (now work)) × (o + (length (now work) - p) ≤ slots) × (k ≤ m) × At (grammarIn (now rows) head) slots (textIn slots m (now work)) m (now work) p o k ⌝ }
+    ensures { λ r. ⌜ Turned (grammarIn (now (rows .entry)) head) slots (textIn slots m (now (work .entry))) m (now (work .entry)) (now (work .exit)) o r × (textIn slots m (now (work .exit)) ≡ textIn slots m (now (work .entry))) ⌝ }
 {
     let end = work.len();
     if end <= p {
@@ -119,7 +117,7 @@ fn step(
     let front = trees::NODE_SIZE * slots;
     let back = front + TOKEN_SIZE * m;
     let a = base::byte_at(&work[front..back], TOKEN_SIZE * k);
-    if x <= t {
+    if x <= head.t {
         if x == a {
             let tag = base::get32(&work[front..back], TOKEN_SIZE * k + 1);
             trees::put_node(work, o, o + 1, x, 0, tag);
@@ -127,9 +125,9 @@ fn step(
         }
         return Turn::Over(Parsed::Syntax(k, 1 << x));
     }
-    let q = base::byte_at(tables, (x - t - 1) * grammar::COLUMNS + a);
+    let q = base::byte_at(tables, (x - head.t - 1) * grammar::COLUMNS + a);
     if q == 0 {
-        return Turn::Over(Parsed::Syntax(k, predicted(tables, x - t - 1)));
+        return Turn::Over(Parsed::Syntax(k, predicted(tables, x - head.t - 1)));
     }
     let len = grammar::length_at(rows, q - 1);
     if slots < o + (end - p) + len {
@@ -156,23 +154,20 @@ pub fn parse(
     m: usize,
     tables: &[u8],
     rows: &[u8],
-    t: usize,
-    n: usize,
-    start: usize,
-    count: usize,
+    head: Head,
     slots: usize,
     work: &mut [u8],
 ) -> Parsed
-    requires { ⌜ Ground (now rows) t n start count (now tables) (textIn slots m (now work)) m × (1 ≤ slots) × (slots ≤ maxSlots) × (parseSize slots m ≤ length (now work)) ⌝ }
-    ensures { λ r. ⌜ Ran (grammarIn (now (rows .entry)) t n start count) slots (textIn slots m (now (work .entry))) m (now (work .exit)) r ⌝ }
+    requires { ⌜ Ground (now rows) head (now tables) (textIn slots m (now work)) m × (1 ≤ slots) × (slots ≤ maxSlots) × (parseSize slots m ≤ length (now work)) ⌝ }
+    ensures { λ r. ⌜ Ran (grammarIn (now (rows .entry)) head) slots (textIn slots m (now (work .entry))) m (now (work .exit)) r ⌝ }
 {
-    let mut p = begin(work, start as u8);
+    let mut p = begin(work, head.start as u8);
     let mut k: usize = 0;
     let mut o: usize = 0;
     while o < slots {
         let i = o;
         o += 1;
-        let r = step(m, tables, rows, t, n, start, count, slots, work, i, p, k);
+        let r = step(m, tables, rows, head, slots, work, i, p, k);
         match r {
             Turn::Go(top, token) => {
                 p = top;

@@ -11,6 +11,7 @@ use Rattle.grammar.specs.Grammar.{Grammar, TerminalOf}
 use Rattle.grammar.specs.Prediction.{Prepared}
 use Rattle.grammar.specs.Forest.{Token, kinds, Forest, yield}
 use Rattle.grammar.specs.Rows.{grammarIn}
+use Rattle.grammar.specs.declared.Head.{Head}
 use Rattle.tables.specs.Tables.{Tables}
 use Rattle.trees.specs.Area.{Linked, Valid}
 use Rattle.trees.specs.Nodes.{leavesOf}
@@ -104,25 +105,25 @@ module _ {t : ℕ} (few : t < 256) (w : List Token) (good : Each (Good t) w) {ou
 
 -- ---- the parse
 
-module _ (rows : List ℕ) (t n start count : ℕ) (p : Prepared (grammarIn rows t n start count)) where
+module _ (rows : List ℕ) (head : Head) (p : Prepared (grammarIn rows head)) where
   abbrev G : Grammar
-  G = grammarIn rows t n start count
+  G = grammarIn rows head
 
-  few : t < 256
+  few : head .t < 256
   unfolding grammarIn
   few = omega (arith, p .formed .head .terminals .1)
 
-  good-tree : {S : ℕ} {tree : List ℕ} (v : Valid G S tree) → Each (Good t) (yield (v .tree))
+  good-tree : {S : ℕ} {tree : List ℕ} (v : Valid G S tree) → Each (Good (head .t)) (yield (v .tree))
   unfolding grammarIn
   good-tree v = good-of (yield (v .tree)) (terminals (v .derives)) (good-linked (v .area .linked))
 
   module _ {S : ℕ} {tree : List ℕ} (v : Valid G S tree) {nodes lent out out' : List ℕ} {o place removed m limit r : ℕ}
-      (q : leavesOf (nodesFrom nodes o 0) ≡ yield (v .tree)) (s : Sentence t lent (tokensFrom lent m 0)) (a : NewSentence nodes o place removed lent m limit out out' r) where
-    good-new : Each (Good t) (take limit (edited (editOf place removed (tokensFrom lent m 0)) (leavesOf (nodesFrom nodes o 0))))
+      (q : leavesOf (nodesFrom nodes o 0) ≡ yield (v .tree)) (s : Sentence (head .t) lent (tokensFrom lent m 0)) (a : NewSentence nodes o place removed lent m limit out out' r) where
+    good-new : Each (Good (head .t)) (take limit (edited (editOf place removed (tokensFrom lent m 0)) (leavesOf (nodesFrom nodes o 0))))
     good-new = good-edited place removed limit (leavesOf (nodesFrom nodes o 0)) (tokensFrom lent m 0) (rw q (good-tree v)) (good-of (tokensFrom lent m 0) (s .kinds) (s .tags))
 
     -- what the parse asks for
-    pub ground-of : {tables : List ℕ} → Tables G tables → Ground rows t n start count tables (partOf out' r) r
+    pub ground-of : {tables : List ℕ} → Tables G tables → Ground rows head tables (partOf out' r) r
     ground-of h =
         record { prepared = p; tables = h; long = part-long few _ good-new (a .added); kinds = part-kinds few _ good-new (a .added) }
 

@@ -28,13 +28,13 @@ copy-requires : tie.Need-copy-requires
 copy-requires c κs = search needs
 
 parse-requires : tie.Need-parse-requires
-parse-requires c κs = (ground-front _ _ _ _ _ _ _ _ (c .before .before .before .before .before .before .before .before .before .before .before .pre .0) _ _ _ _ (c .before .before .before .before .before .before .least .ensures) (search needs) (c .before .before .before .copy .ensures), search needs, search needs, search needs)
+parse-requires c κs = let s = c .before .before .before in (ground-front _ _ _ _ _ (s .before .before .before .before .before .before .before .before .pre .0) _ _ _ _ (s .before .before .before .least .ensures) (search needs) (s .copy .ensures), search needs, search needs, search needs)
 
 same-length : tie.Need-same-length
 same-length c = search needs
 
 returns : tie.Need-returns
-returns c = ran-front _ _ _ _ _ _ _ _ (c .before .before .before .before .before .before .before .before .before .before .before .before .before .before .pre .0) _ _ _ _ (c .before .before .before .before .before .before .before .before .before .least .ensures) (search needs) (c .before .before .before .before .before .before .copy .ensures) (search needs) (c .before .before .parse .ensures)
+returns c = let s = c .before .before .before .before .before .before in ran-front _ _ _ _ _ (s .before .before .before .before .before .before .before .before .pre .0) _ _ _ _ (s .before .before .before .least .ensures) (search needs) (s .copy .ensures) (search needs) (c .before .before .parse .ensures)
 
 pub parse-lent-spec : {M : Type 1} → statement M
 parse-lent-spec =

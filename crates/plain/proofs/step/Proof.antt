@@ -7,10 +7,10 @@ use Rattle.plain.proofs.step.Statement.{statement}
 use Rattle.plain.proofs.step.Tie as tie
 
 returns : tie.Need-returns
-returns c = (ran-done (at-end _ _ _ _ _ _ _ _ (c .before .before .before .before .before .pre .0) _ _ _ _ _ (search needs) (c .before .before .before .before .before .pre .7) (search needs)), refl)
+returns c = let s = c .before .before .before .before .before in (ran-done (at-end _ _ _ _ _ (s .pre .0) _ _ _ _ _ (search needs) (s .pre .7) (search needs)), refl)
 
 returns-2 : tie.Need-returns-2
-returns-2 c = (ran-wrong (at-rest _ _ _ _ _ _ _ _ (c .before .before .before .before .before .pre .0) _ _ _ _ _ (search needs) (c .before .before .before .before .before .pre .7) (search needs)), refl)
+returns-2 c = let s = c .before .before .before .before .before in (ran-wrong (at-rest _ _ _ _ _ (s .pre .0) _ _ _ _ _ (search needs) (s .pre .7) (search needs)), refl)
 
 byte-at-requires : tie.Need-byte-at-requires
 byte-at-requires c κs = search needs
@@ -63,29 +63,29 @@ add-put-node c = search needs
 put-node-requires : tie.Need-put-node-requires
 put-node-requires c κs = search needs
 
-add-t39 : tie.Need-add-t39
-add-t39 c = search needs
+add-t36 : tie.Need-add-t36
+add-t36 c = search needs
 
-add-t35 : tie.Need-add-t35
-add-t35 c = search needs
+add-t32 : tie.Need-add-t32
+add-t32 c = search needs
 
 same-length : tie.Need-same-length
 same-length c = search needs
 
 returns-3 : tie.Need-returns-3
-returns-3 c = (at-leaf _ _ _ _ _ _ _ _ (c .before .before .before .before .before .before .before .before .before .before .before .before .before .before .before .before .before .before .pre .0) _ _ _ _ _ (search needs) (search needs) (search needs) (search needs) (c .before .before .before .before .before .before .before .before .before .before .before .before .before .before .before .before .before .before .pre .7) _ _ (c .before .before .before .before .before .before .before .before .before .before .before .before .byte-at .ensures .0) (text-kind _ _ _ _ _ (c .before .before .before .before .before .before .before .before .before .byte-at2 .ensures .0)) (search needs) (search needs) _ _ (text-tag _ _ _ _ _ (c .before .before .before .before .get32 .ensures .0)) (c .before .before .put-node .ensures), text-put _ _ (search needs) (c .before .before .put-node .ensures) (search needs))
+returns-3 c = let s = c .before .before .before .before .before .before .before .before .before .before in let e = s .before .before .before .before .before .before .before .before .before .pre in (at-leaf _ _ _ _ _ (e .0) _ _ _ _ _ (search needs) (search needs) (search needs) (search needs) (e .7) _ _ (s .before .before .before .byte-at .ensures .0) (text-kind _ _ _ _ _ (s .byte-at2 .ensures .0)) (search needs) (search needs) _ _ (text-tag _ _ _ _ _ (c .before .before .before .before .get32 .ensures .0)) (c .before .before .put-node .ensures), text-put _ _ (search needs) (c .before .before .put-node .ensures) (search needs))
 
-cast-t43 : tie.Need-cast-t43
-cast-t43 c = search needs
+cast-t40 : tie.Need-cast-t40
+cast-t40 c = search needs
 
-shl-t44 : tie.Need-shl-t44
-shl-t44 c = let h = few _ _ _ _ _ _ _ _ (c .before .before .before .before .before .before .before .before .before .before .before .pre .0) in search needs
+shl-t41 : tie.Need-shl-t41
+shl-t41 c = let h = few _ _ _ _ _ (c .before .before .before .before .before .before .before .before .before .before .before .before .pre .0) in search needs
 
 same-length-2 : tie.Need-same-length-2
 same-length-2 c = search needs
 
 returns-4 : tie.Need-returns-4
-returns-4 c = (ran-wrong (at-odd _ _ _ _ _ _ _ _ (c .before .before .before .before .before .before .before .before .before .before .before .pre .0) _ _ _ _ _ (search needs) (search needs) (search needs) (search needs) (c .before .before .before .before .before .before .before .before .before .before .before .pre .7) _ _ (c .before .before .before .before .before .byte-at .ensures .0) (text-kind _ _ _ _ _ (c .before .before .byte-at2 .ensures .0)) (search needs) (search needs)), refl)
+returns-4 c = let s = c .before .before .before .before .before .before in let e = s .before .before .before .before .before .before .pre in (ran-wrong (at-odd _ _ _ _ _ (e .0) _ _ _ _ _ (search needs) (search needs) (search needs) (search needs) (e .7) _ _ (s .byte-at .ensures .0) (text-kind _ _ _ _ _ (c .before .before .before .byte-at2 .ensures .0)) (search needs) (search needs)), refl)
 
 sub-byte-at-2 : tie.Need-sub-byte-at-2
 sub-byte-at-2 c = search needs
@@ -109,13 +109,13 @@ sub-predicted-2 : tie.Need-sub-predicted-2
 sub-predicted-2 c = search needs
 
 predicted-requires : tie.Need-predicted-requires
-predicted-requires c κs = low-row _ _ _ _ _ _ _ _ (c .before .before .before .before .before .before .before .before .before .before .before .before .pre .0) _ _ _ _ _ (search needs) (search needs) (search needs) (search needs) (c .before .before .before .before .before .before .before .before .before .before .before .before .pre .7) _ _ (c .before .before .before .before .before .before .byte-at .ensures .0) (text-kind _ _ _ _ _ (c .before .before .before .byte-at2 .ensures .0)) (search needs) _ (c .before .byte-at3 .ensures .0)
+predicted-requires c κs = let s = c .before .before .before .before .before .before in let e = s .before .before .before .before .before .before .before .before .before .pre in low-row _ _ _ _ _ (e .0) _ _ _ _ _ (search needs) (search needs) (search needs) (search needs) (e .7) _ _ (s .before .before .before .byte-at .ensures .0) (text-kind _ _ _ _ _ (s .byte-at2 .ensures .0)) (search needs) _ (c .before .before .byte-at3 .ensures .0)
 
 same-length-3 : tie.Need-same-length-3
 same-length-3 c = search needs
 
 returns-5 : tie.Need-returns-5
-returns-5 c = (ran-wrong (at-none _ _ _ _ _ _ _ _ (c .before .before .before .before .before .before .before .before .before .before .before .before .before .pre .0) _ _ _ _ _ (search needs) (search needs) (search needs) (search needs) (c .before .before .before .before .before .before .before .before .before .before .before .before .before .pre .7) _ _ (c .before .before .before .before .before .before .before .byte-at .ensures .0) (text-kind _ _ _ _ _ (c .before .before .before .before .byte-at2 .ensures .0)) (search needs) _ (c .before .before .byte-at3 .ensures .0) (search needs) _ (c .predicted .ensures)), refl)
+returns-5 c = let s = c .before .before .before .before .before .before .before in let e = s .before .before .before .before .before .before .before .before .before .pre in (ran-wrong (at-none _ _ _ _ _ (e .0) _ _ _ _ _ (search needs) (search needs) (search needs) (search needs) (e .7) _ _ (s .before .before .before .byte-at .ensures .0) (text-kind _ _ _ _ _ (s .byte-at2 .ensures .0)) (search needs) _ (c .before .before .before .byte-at3 .ensures .0) (search needs) _ (c .predicted .ensures)), refl)
 
 sub-length-at : tie.Need-sub-length-at
 sub-length-at c = search needs
@@ -136,7 +136,7 @@ same-length-4 : tie.Need-same-length-4
 same-length-4 c = search needs
 
 returns-6 : tie.Need-returns-6
-returns-6 c = (ran-full (at-crowded _ _ _ _ _ _ _ _ (c .before .before .before .before .before .before .before .before .before .before .before .before .before .before .pre .0) _ _ _ _ _ (search needs) (search needs) (search needs) (search needs) (c .before .before .before .before .before .before .before .before .before .before .before .before .before .before .pre .7) _ _ (c .before .before .before .before .before .before .before .before .byte-at .ensures .0) (text-kind _ _ _ _ _ (c .before .before .before .before .before .byte-at2 .ensures .0)) (search needs) _ (c .before .before .before .byte-at3 .ensures .0) (search needs) (search needs)), refl)
+returns-6 c = let s = c .before .before .before .before .before .before .before in let e = s .before .before .before .before .before .before .before .before .before .pre in (ran-full (at-crowded _ _ _ _ _ (e .0) _ _ _ _ _ (search needs) (search needs) (search needs) (search needs) (e .7) _ _ (s .before .before .before .byte-at .ensures .0) (text-kind _ _ _ _ _ (s .byte-at2 .ensures .0)) (search needs) _ (c .before .before .before .byte-at3 .ensures .0) (search needs) (search needs)), refl)
 
 add-top : tie.Need-add-top
 add-top c = search needs
@@ -160,7 +160,7 @@ same-length-5 : tie.Need-same-length-5
 same-length-5 c = search needs
 
 returns-7 : tie.Need-returns-7
-returns-7 c = (at-inner _ _ _ _ _ _ _ _ (c .before .before .before .before .before .before .before .before .before .before .before .before .before .before .before .before .before .before .before .before .before .before .pre .0) _ _ _ _ _ (search needs) (search needs) (search needs) (search needs) (c .before .before .before .before .before .before .before .before .before .before .before .before .before .before .before .before .before .before .before .before .before .before .pre .7) _ _ (c .before .before .before .before .before .before .before .before .before .before .before .before .before .before .before .before .byte-at .ensures .0) (text-kind _ _ _ _ _ (c .before .before .before .before .before .before .before .before .before .before .before .before .before .byte-at2 .ensures .0)) (search needs) _ (c .before .before .before .before .before .before .before .before .before .before .before .byte-at3 .ensures .0) (search needs) _ (c .before .before .before .before .before .before .before .before .before .length-at .ensures .0) (search needs) _ _ _ (search needs) (c .before .before .before .before .before .before .push .ensures) (c .before .before .put-node2 .ensures), text-put _ _ (search needs) (c .before .before .put-node2 .ensures) (search needs) ∙ text-filled _ _ (search needs) (c .before .before .before .before .before .before .push .ensures) (search needs))
+returns-7 c = let s = c .before .before .before .before .before .before .before .before .before in let e = s .before .before .before .before .before .before .before .before .before .before .before .before .before .before .before .pre in (at-inner _ _ _ _ _ (e .0) _ _ _ _ _ (search needs) (search needs) (search needs) (search needs) (e .7) _ _ (s .before .before .before .before .before .before .before .before .before .byte-at .ensures .0) (text-kind _ _ _ _ _ (s .before .before .before .before .before .before .byte-at2 .ensures .0)) (search needs) _ (s .before .before .byte-at3 .ensures .0) (search needs) _ (s .length-at .ensures .0) (search needs) _ _ _ (search needs) (c .before .before .before .before .before .before .push .ensures) (c .before .before .put-node2 .ensures), text-put _ _ (search needs) (c .before .before .put-node2 .ensures) (search needs) ∙ text-filled _ _ (search needs) (c .before .before .before .before .before .before .push .ensures) (search needs))
 
 pub step-spec : {M : Type 1} → statement M
 step-spec =
@@ -185,12 +185,12 @@ step-spec =
     get32-requires
     add-put-node
     put-node-requires
-    add-t39
-    add-t35
+    add-t36
+    add-t32
     same-length
     returns-3
-    cast-t43
-    shl-t44
+    cast-t40
+    shl-t41
     same-length-2
     returns-4
     sub-byte-at-2
