@@ -5,6 +5,7 @@ use mathlib.Core.List.{List}
 use lib.ListN.{length, take, drop}
 use native.Mathlib.Omega.{arith}
 use Rattle.base.specs.Blocks.{part-tail}
+use Rattle.grammar.specs.declared.Head.{Head}
 use Rattle.grammar.specs.Grammar.{Grammar}
 use Rattle.grammar.specs.Rows.{grammarIn}
 use Rattle.trees.specs.Area.{maxSlots, areaSize, Area}
@@ -36,9 +37,9 @@ pub record Doubled (G : Grammar) (S place removed inserted : ℕ) (tree w : List
 pub record SettledAll (G : Grammar) (S place removed inserted : ℕ) (tree w : List ℕ) (o k r : ℕ) (tree' : List ℕ) : Type 0 where
   pub all : (e : Edit) → Numbers e place removed inserted → Both G S e tree w o k → AltersTree G S e tree (Alteration.Altered k r) tree'
 
-module _ (rows : List ℕ) (t n start count S place removed inserted : ℕ) (tree w : List ℕ) (o k : ℕ) (h : Doubled (grammarIn rows t n start count) S place removed inserted tree w o k) where
+module _ (rows : List ℕ) (head : Head) {S place removed inserted : ℕ} {tree w : List ℕ} {o k : ℕ} (h : Doubled (grammarIn rows head) S place removed inserted tree w o k) where
   abbrev G : Grammar
-  G = grammarIn rows t n start count
+  G = grammarIn rows head
 
   -- the numbers are small
   pub record Small : Type 0 where
@@ -53,12 +54,12 @@ module _ (rows : List ℕ) (t n start count S place removed inserted : ℕ) (tre
 
   pub small : Small
   small =
-      let y = both-numbers rows t n start count S (h .edit) tree w o k (h .both) in
+      let y = both-numbers rows head (h .both) in
       record {
         few = h .both .old .valid .few;
         long = h .both .old .valid .area .long;
-        old = treed-fits rows t n start count S tree w o (h .both .old);
-        old-some = both-some rows t n start count S (h .edit) tree w o k (h .both);
+        old = treed-fits rows head S tree w o (h .both .old);
+        old-some = both-some rows head (h .both);
         new = h .both .fits;
         place-few = omega (arith, y .0, h .numbers .place-is);
         removed-few = omega (arith, y .1, h .numbers .removed-is);
@@ -66,23 +67,23 @@ module _ (rows : List ℕ) (t n start count S place removed inserted : ℕ) (tre
       }
 
   pub lists-old : Built rows w o 0
-  lists-old = both-old rows t n start count S (h .edit) tree w o k (h .both)
+  lists-old = both-old rows head (h .both)
 
   pub lists-new : Built rows w k S
-  lists-new = both-new rows t n start count S (h .edit) tree w o k (h .both)
+  lists-new = both-new rows head (h .both)
 
   pub one-root : trees (treeIn rows w k S) ≡ 1
-  one-root = both-one rows t n start count S (h .edit) tree w o k (h .both)
+  one-root = both-one rows head (h .both)
 
   module _ {ms : List ℕ} (m : Matching rows w o S k place removed inserted ms) (few : Few o ms) where
     pub slots-fit : Fit S w ms k
-    slots-fit = both-fit rows t n start count S (h .edit) tree w o k (h .both) (h .numbers) m few
+    slots-fit = both-fit rows head (h .both) (h .numbers) m few
 
     pub slots-old : Old S k ms
-    slots-old = both-old-nodes rows t n start count S (h .edit) tree w o k (h .both) (h .numbers) m few
+    slots-old = both-old-nodes rows head (h .both) (h .numbers) m few
 
     pub settled-few : (r : ℕ) → Counts w ms k r → r ≤ o
-    settled-few r c = both-few rows t n start count S (h .edit) tree w o k (h .both) (h .numbers) m few r c
+    settled-few r c = both-few rows head (h .both) (h .numbers) m few r c
 
     -- of a list that is the same
     module _ {u : List ℕ} (q : u ≡ w) where
@@ -103,12 +104,12 @@ module _ (rows : List ℕ) (t n start count S place removed inserted : ℕ) (tre
           rw (p, part-tail v (nodeSize * S)) (nodes-drop v S k 0 ∙ ap (nodesFrom v k) z ∙ sym (nodes-in v S k S (omega (arith, small .new))))
 
       pub laid-spread : Spread S (nodesFrom part k 0)
-      laid-spread = rw part-is (both-spread rows t n start count S (h .edit) tree w o k (h .both) (h .numbers) m few g)
+      laid-spread = rw part-is (both-spread rows head (h .both) (h .numbers) m few g)
 
       pub laid-fed : Fed (arityIn rows) (nodesFrom part k 0)
-      laid-fed = rw part-is (both-fed rows t n start count S (h .edit) tree w o k (h .both) (h .numbers) m few g)
+      laid-fed = rw part-is (both-fed rows head (h .both) (h .numbers) m few g)
 
       pub settled-all : {tree' : List ℕ} (r : ℕ) → Counts w ms k r → Area S (build (arityIn rows) (nodesFrom part k 0)) tree' → SettledAll G S place removed inserted tree w o k r tree'
       settled-all {tree'} r c a =
           let b : Area S (build (arityIn rows) (nodesFrom (nodesIn S v) k S)) tree' = rw part-is at a in
-          record { all = λ e s d. both-alters rows t n start count S e tree w o k d s m few g r c b }
+          record { all = λ e s d. both-alters rows head d s m few g r c b }

@@ -7,6 +7,7 @@ use lib.Seq.{drop-at, drop-drop, getD-take}
 use native.Mathlib.Omega.{arith}
 use Rattle.base.specs.Bytes.{byteAt, get16}
 use Rattle.base.specs.Blocks.{part-tail}
+use Rattle.grammar.specs.declared.Head.{Head}
 use Rattle.grammar.specs.Grammar.{Grammar}
 use Rattle.grammar.specs.Prediction.{Prepared}
 use Rattle.grammar.specs.Forest.{yield}
@@ -65,24 +66,24 @@ sentence-long {b = b} m s = omega (arith, ap length (s .is), length-token-bytes 
 
 -- ---- the edit
 
-module _ (rows : List ℕ) (t n start count S : ℕ) (tree w : List ℕ) (o place removed : ℕ) (lent : List ℕ) (m : ℕ) (p : Prepared (grammarIn rows t n start count))
-    (h : Treed (grammarIn rows t n start count) S tree w o) (s : Sentence t lent (tokensFrom lent m 0)) where
+module _ (rows : List ℕ) (head : Head) {S : ℕ} {tree w : List ℕ} {o : ℕ} (place removed : ℕ) {lent : List ℕ} (m : ℕ) (p : Prepared (grammarIn rows head))
+    (h : Treed (grammarIn rows head) S tree w o) (s : Sentence (head .t) lent (tokensFrom lent m 0)) where
   abbrev G : Grammar
-  G = grammarIn rows t n start count
+  G = grammarIn rows head
 
   abbrev e : Edit
   e = editOf place removed (tokensFrom lent m 0)
 
   old-leaves : leavesOf (nodesFrom w o 0) ≡ yield (h .valid .tree)
-  old-leaves = leaves rows t n start count S tree w o h
+  old-leaves = leaves rows head S tree w o h
 
   module _ {w₁ : List ℕ} (f : Fronted (nodeSize * (S + S)) w w₁) {limit r : ℕ} (a : NewSentence w o place removed lent m limit (drop (nodeSize * (S + S)) w) (drop (nodeSize * (S + S)) w₁) r) where
     abbrev text : List ℕ
     text = partOf (drop (nodeSize * (S + S)) w₁) r
 
     module _ {lentPart : List ℕ} (lp : lentPart ≡ take (length w₁ - nodeSize * S) (drop (nodeSize * S) w₁)) where
-      pub course-ground : {tables : List ℕ} → Tables G tables → Ground rows t n start count tables (textIn S r lentPart) r
-      course-ground x = rw (text-is w₁ S r lp) (ground-of rows t n start count p (h .valid) old-leaves s a x)
+      pub course-ground : {tables : List ℕ} → Tables G tables → Ground rows head tables (textIn S r lentPart) r
+      course-ground x = rw (text-is w₁ S r lp) (ground-of rows head p (h .valid) old-leaves s a x)
 
       module _ (l : limit ≡ suc S) where
         pub course-syntax : {b : List ℕ} {v : Parsed} (i x : ℕ) → Ran G S (textIn S r lentPart) r b v → v ≡ Parsed.Syntax i x → AltersTree G S e tree (Alteration.Syntax i x) tree
@@ -90,7 +91,7 @@ module _ (rows : List ℕ) (t n start count S : ℕ) (tree w : List ℕ) (o plac
             record {
               all = λ v.
                   let z : yield (h .valid .tree) ≡ yield (v .tree) = ap yield (valid-one (h .valid) v) in
-                  Alters.wrong-syntax (rw z at (parses-of rows t n start count p (h .valid) old-leaves s a l (rw (text-is w₁ S r lp) at (is-wrong i x u q))));
+                  Alters.wrong-syntax (rw z at (parses-of rows head p (h .valid) old-leaves s a l (rw (text-is w₁ S r lp) at (is-wrong i x u q))));
             }
 
         pub course-room : {b : List ℕ} {v : Parsed} → Ran G S (textIn S r lentPart) r b v → v ≡ Parsed.NoRoom → AltersTree G S e tree Alteration.NoRoom tree
@@ -98,7 +99,7 @@ module _ (rows : List ℕ) (t n start count S : ℕ) (tree w : List ℕ) (o plac
             record {
               all = λ v.
                   let z : yield (h .valid .tree) ≡ yield (v .tree) = ap yield (valid-one (h .valid) v) in
-                  Alters.no-room (rw z at (parses-of rows t n start count p (h .valid) old-leaves s a l (rw (text-is w₁ S r lp) at (is-full u q))));
+                  Alters.no-room (rw z at (parses-of rows head p (h .valid) old-leaves s a l (rw (text-is w₁ S r lp) at (is-full u q))));
             }
 
         module _ (room : place + removed ≤ get16 tree tokensPlace) {b : List ℕ} (k : ℕ) (d₀ : Done G S (textIn S r lentPart) r k b) (long : nodeSize * S ≤ length w) where
@@ -116,7 +117,7 @@ module _ (rows : List ℕ) (t n start count S : ℕ) (tree w : List ℕ) (o plac
 
           both : Both G S e tree (nodesIn S w₂) o k
           both =
-              let few : o ≤ S = treed-fits rows t n start count S tree w o h in
+              let few : o ≤ S = treed-fits rows head S tree w o h in
               let x : nodesFrom (nodesIn S w₂) k S ≡ nodesFrom b k 0 =
               let z : S + 0 ≡ S = omega arith in
               nodes-in w₂ S k S (omega (arith, course-fits)) ∙ rw (part-back w₁ b (nodeSize * S) long₁, z) at (sym (nodes-drop w₂ S k 0)) in
@@ -126,7 +127,7 @@ module _ (rows : List ℕ) (t n start count S : ℕ) (tree w : List ℕ) (o plac
                 prepared = p;
                 old = record { valid = h .valid; nodes = h .nodes ∙ sym y; count = h .count };
                 lists = rw x (d .lists);
-                leaves = rw x (d .leaves ∙ whole-of rows t n start count p (h .valid) old-leaves s a l (d .parses));
+                leaves = rw x (d .leaves ∙ whole-of rows head p (h .valid) old-leaves s a l (d .parses));
                 fits = course-fits;
                 room = omega (arith, room, valid-header (h .valid) .tokens);
               }

@@ -5,6 +5,7 @@ use mathlib.Core.Logic.{_⊎_, inl, inr}
 use mathlib.Core.List.{List, [], _∷_, _++_, List·Memᴰ}
 use lib.ListN.{length, take, drop, length-append}
 use native.Mathlib.Omega.{arith}
+use Rattle.grammar.specs.declared.Head.{Head}
 use Rattle.grammar.specs.Grammar.{Grammar}
 use Rattle.grammar.specs.Prediction.{Prepared}
 use Rattle.grammar.specs.Forest.{Token, Forest, size, yield, Derives}
@@ -46,12 +47,12 @@ record Derived (rows : List ℕ) (G : Grammar) (w : List ℕ) (k base : ℕ) (xs
   derives : Derives G xs (treeIn rows w k base)
   fed : Fed (arityIn rows) (nodesFrom w k base)
 
-derived : (rows : List ℕ) (t n start count : ℕ) (w : List ℕ) (k base : ℕ) {xs : List ℕ} → Lists (grammarIn rows t n start count) xs (nodesFrom w k base)
-    → Derived rows (grammarIn rows t n start count) w k base xs
+derived : (rows : List ℕ) (head : Head) (w : List ℕ) (k base : ℕ) {xs : List ℕ} → Lists (grammarIn rows head) xs (nodesFrom w k base)
+    → Derived rows (grammarIn rows head) w k base xs
 unfolding treeIn
-derived rows t n start count w k base h =
+derived rows head w k base h =
     let q = lists-forest h in
-    let f : Formed (arityIn rows) (q .0) = derives-formed (arityIn rows) (arity-rows rows t n start count) (q .1) in
+    let f : Formed (arityIn rows) (q .0) = derives-formed (arityIn rows) (arity-rows rows head) (q .1) in
     let e : build (arityIn rows) (nodesFrom w k base) ≡ q .0 = rw (q .2) at (build-preorder f) in
     record { built = record { formed = rw e f; listed = rw e (q .2) }; derives = rw e (q .1); fed = rw (q .2) at (fed-preorder f) }
 
@@ -105,9 +106,9 @@ pub record Both (G : Grammar) (S : ℕ) (e : Edit) (tree w : List ℕ) (o k : �
   pub fits : k ≤ S
   pub room : e .place + e .removed ≤ length (yield (old .valid .tree))
 
-module _ (rows : List ℕ) (t n start count S : ℕ) (e : Edit) (tree w : List ℕ) (o k : ℕ) (h : Both (grammarIn rows t n start count) S e tree w o k) where
+module _ (rows : List ℕ) (head : Head) {S : ℕ} {e : Edit} {tree w : List ℕ} {o k : ℕ} (h : Both (grammarIn rows head) S e tree w o k) where
   abbrev G : Grammar
-  G = grammarIn rows t n start count
+  G = grammarIn rows head
 
   abbrev old : Forest
   old = h .old .valid .tree
@@ -116,15 +117,15 @@ module _ (rows : List ℕ) (t n start count S : ℕ) (e : Edit) (tree w : List �
   new = treeIn rows w k S
 
   old-derived : Derived rows G w o 0 (G .start ∷ [])
-  old-derived = derived rows t n start count w o 0 (rw (h .old .nodes) at (forest-lists (h .old .valid .derives)))
+  old-derived = derived rows head w o 0 (rw (h .old .nodes) at (forest-lists (h .old .valid .derives)))
 
   new-derived : Derived rows G w k S (G .start ∷ [])
-  new-derived = derived rows t n start count w k S (h .lists)
+  new-derived = derived rows head w k S (h .lists)
 
   -- the list gives the old tree back
   old-is : treeIn rows w o 0 ≡ old
   unfolding treeIn
-  old-is = rw (h .old .nodes) at (build-preorder (derives-formed (arityIn rows) (arity-rows rows t n start count) (h .old .valid .derives)))
+  old-is = rw (h .old .nodes) at (build-preorder (derives-formed (arityIn rows) (arity-rows rows head) (h .old .valid .derives)))
 
   -- what matching asks
   pub both-old : Built rows w o 0
@@ -149,7 +150,7 @@ module _ (rows : List ℕ) (t n start count S : ℕ) (e : Edit) (tree w : List �
       let a = length-append (take (e .place) (yield old)) (e .inserted ++ drop (e .place + e .removed) (yield old)) in
       let b = length-append (e .inserted) (drop (e .place + e .removed) (yield old)) in
       let z = few-tokens old in
-      let v = treed-fits rows t n start count S tree w o (h .old) in
+      let v = treed-fits rows head S tree w o (h .old) in
       let u = h .old .count in
       (omega (arith, h .room), omega (arith, h .room), omega (arith, few-tokens new, built-size rows w k S, h .fits))
 
@@ -206,7 +207,7 @@ module _ (rows : List ℕ) (t n start count S : ℕ) (e : Edit) (tree w : List �
     both-fit = record { held = holding-held (h .prepared) (new-derived .derives) (h .old .valid .area) holding }
 
     pub both-old-nodes : Old S k ms
-    both-old-nodes = record { each = λ i l. omega (arith, few .each i, treed-fits rows t n start count S tree w o (h .old)) }
+    both-old-nodes = record { each = λ i l. omega (arith, few .each i, treed-fits rows head S tree w o (h .old)) }
 
     pub both-few : (r : ℕ) → Counts w ms k r → r ≤ o
     both-few r c =
@@ -221,7 +222,7 @@ module _ (rows : List ℕ) (t n start count S : ℕ) (e : Edit) (tree w : List �
       slotted = slotted-from w w' k S (g .fields)
 
       laid : Derived rows G w' k S (G .start ∷ [])
-      laid = derived rows t n start count w' k S (lists-slotted slotted (h .lists))
+      laid = derived rows head w' k S (lists-slotted slotted (h .lists))
 
       abbrev settled : Forest
       settled = treeIn rows w' k S

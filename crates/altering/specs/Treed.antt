@@ -5,6 +5,7 @@ use lib.ListN.{length}
 use mathlib.Core.List.{List}
 use native.Mathlib.Omega.{arith}
 use Rattle.base.specs.Choose.{never}
+use Rattle.grammar.specs.declared.Head.{Head}
 use Rattle.grammar.specs.Grammar.{Grammar}
 use Rattle.grammar.specs.Forest.{size, yield}
 use Rattle.grammar.specs.Rows.{lengthAt, grammarIn}
@@ -23,12 +24,12 @@ abbrev pub workAreas : ℕ
 workAreas = 3
 
 -- the rows say how many children a production has
-pub arity-rows : (rows : List ℕ) (t n start count : ℕ) → Arity (grammarIn rows t n start count) (arityIn rows)
+pub arity-rows : (rows : List ℕ) (head : Head) → Arity (grammarIn rows head) (arityIn rows)
 unfolding arityIn
-arity-rows rows t n start count =
+arity-rows rows head =
     record {
       is = λ p M γ r.
-          let x = rule-row rows t n start count r in
+          let x = rule-row rows head r in
           let z : p - 1 ≡ x .row = omega (arith, x .number) in
           ap (lengthAt rows) z ∙ sym (length-symbols rows (x .row) (lengthAt rows (x .row)) 0) ∙ sym (ap length (x .body));
     }
@@ -47,10 +48,10 @@ pub untreed : {G : Grammar} {S : ℕ} {b w : List ℕ} {r : Walked} → Reads G 
 untreed (Reads.tree v e f) q = never (cc)
 untreed (Reads.none f) q = f
 
-module _ (rows : List ℕ) (t n start count S : ℕ) (tree nodes : List ℕ) (o : ℕ) (h : Treed (grammarIn rows t n start count) S tree nodes o) where
+module _ (rows : List ℕ) (head : Head) (S : ℕ) (tree nodes : List ℕ) (o : ℕ) (h : Treed (grammarIn rows head) S tree nodes o) where
   -- the tokens of its leaves are those of the tree
   pub leaves : leavesOf (nodesFrom nodes o 0) ≡ yield (h .valid .tree)
-  leaves = ap leavesOf (sym (h .nodes)) ∙ leaves-yield (derives-formed (arityIn rows) (arity-rows rows t n start count) (h .valid .derives))
+  leaves = ap leavesOf (sym (h .nodes)) ∙ leaves-yield (derives-formed (arityIn rows) (arity-rows rows head) (h .valid .derives))
 
   -- it has no more nodes than slots
   pub treed-fits : o ≤ S

@@ -1,4 +1,5 @@
 // An edit of a valid tree by good tokens: the new sentence is formed and parsed, its nodes get their slots, and the area is laid out.
+use grammar::Head;
 use plain::Parsed;
 ghost use Prim.Native.Nat.{_+_, _*_, _≤_};
 ghost use lib.ListN.{length};
@@ -25,10 +26,7 @@ pub enum Alteration {
 // what is noted of both stands behind them.
 fn settle(
     rows: &[u8],
-    t: usize,
-    n: usize,
-    start: usize,
-    count: usize,
+    head: Head,
     slots: usize,
     o: usize,
     k: usize,
@@ -38,8 +36,8 @@ fn settle(
     work: &mut [u8],
     tree: &mut [u8],
 ) -> usize
-    requires { ⌜ Doubled (grammarIn (now rows) t n start count) slots place removed inserted (now tree) (nodesIn slots (now work)) o k × (notesSize slots ≤ length (now work)) ⌝ }
-    ensures { λ r. ⌜ SettledAll (grammarIn (now (rows .entry)) t n start count) slots place removed inserted (now (tree .entry)) (nodesIn slots (now (work .entry))) o k r (now (tree .exit)) × (r ≤ k) × (r ≤ o) ⌝ }
+    requires { ⌜ Doubled (grammarIn (now rows) head) slots place removed inserted (now tree) (nodesIn slots (now work)) o k × (notesSize slots ≤ length (now work)) ⌝ }
+    ensures { λ r. ⌜ SettledAll (grammarIn (now (rows .entry)) head) slots place removed inserted (now (tree .entry)) (nodesIn slots (now (work .entry))) o k r (now (tree .exit)) × (r ≤ k) × (r ≤ o) ⌝ }
 {
     matching::match_nodes(work, slots, o, k, rows, place, removed, inserted);
     let kept = keeping::give_slots(work, slots, k);
@@ -51,10 +49,7 @@ fn settle(
 // is formed, as far as a parse looks at it.
 pub fn alter(
     rows: &[u8],
-    t: usize,
-    n: usize,
-    start: usize,
-    count: usize,
+    head: Head,
     tables: &[u8],
     slots: usize,
     o: usize,
@@ -65,8 +60,8 @@ pub fn alter(
     work: &mut [u8],
     tree: &mut [u8],
 ) -> Alteration
-    requires { ⌜ Prepared (grammarIn (now rows) t n start count) × Tables (grammarIn (now rows) t n start count) (now tables) × Treed (grammarIn (now rows) t n start count) slots (now tree) (now work) o × Sentence t (now tokens) (tokensFrom (now tokens) m 0) × (place + removed ≤ get16 (now tree) tokensPlace) × (workAreas * length (now tree) ≤ length (now work)) ⌝ }
-    ensures { λ r. ⌜ AltersTree (grammarIn (now (rows .entry)) t n start count) slots (editOf place removed (tokensFrom (now (tokens .entry)) m 0)) (now (tree .entry)) r (now (tree .exit)) × Few o r ⌝ }
+    requires { ⌜ Prepared (grammarIn (now rows) head) × Tables (grammarIn (now rows) head) (now tables) × Treed (grammarIn (now rows) head) slots (now tree) (now work) o × Sentence (head .t) (now tokens) (tokensFrom (now tokens) m 0) × (place + removed ≤ get16 (now tree) tokensPlace) × (workAreas * length (now tree) ≤ length (now work)) ⌝ }
+    ensures { λ r. ⌜ AltersTree (grammarIn (now (rows .entry)) head) slots (editOf place removed (tokensFrom (now (tokens .entry)) m 0)) (now (tree .entry)) r (now (tree .exit)) × Few o r ⌝ }
 {
     let text = trees::NODE_SIZE * (slots + slots);
     let r = sentences::new_sentence(work, o, place, removed, tokens, m, slots + 1, text);
@@ -74,30 +69,13 @@ pub fn alter(
         r,
         tables,
         rows,
-        t,
-        n,
-        start,
-        count,
+        head,
         slots,
         &mut work[trees::NODE_SIZE * slots..],
     ) {
         Parsed::Accepted(k) => Alteration::Altered(
             k,
-            settle(
-                rows,
-                t,
-                n,
-                start,
-                count,
-                slots,
-                o,
-                k,
-                place,
-                removed,
-                m,
-                work,
-                tree,
-            ),
+            settle(rows, head, slots, o, k, place, removed, m, work, tree),
         ),
         Parsed::Syntax(token, expected) => Alteration::Syntax(token, expected),
         Parsed::NoRoom => Alteration::NoRoom,

@@ -14,8 +14,10 @@ use Rattle.base.specs.Tells.{Tells, tells-yes, tells-no}
 use Rattle.base.specs.Bytes.{byteAt, get16, get32, leBytes}
 use Rattle.base.specs.Written.{get64, get64-two}
 use Rattle.base.specs.Blocks.{zeros, length-zeros, byte-zeros}
+use Rattle.grammar.specs.declared.Head.{Head}
 use Rattle.grammar.specs.Grammar.{Grammar}
 use Rattle.grammar.specs.Forest.{size}
+use Rattle.grammar.specs.Rows.{grammarIn}
 use Rattle.trees.specs.Area.{rootPlace, usedPlace, tokensPlace, slotSize, maxSlots, areaSize, headerBytes, slotAt, Valid}
 use Rattle.trees.specs.Nodes.{preorder, size-preorder}
 use Rattle.trees.specs.Coded.{nodesFrom, length-nodes}
@@ -29,7 +31,7 @@ use Rattle.walks.specs.Judging.{below}
 use Rattle.walks.specs.Going.{going-end, going-one}
 use Rattle.walks.specs.Reading.{leafCount, leaves-few, Free, found-valid, valid-few, valid-found}
 use Rattle.walks.specs.Stacked.{marksIn}
-use Rattle.walks.specs.Walking.{gram, Ended, Wandered}
+use Rattle.walks.specs.Walking.{Ended, Wandered}
 
 -- ---- the header
 
@@ -236,20 +238,17 @@ pub data Reads (G : Grammar) (S : ℕ) (b w : List ℕ) : Walked → Type 0 wher
   tree : {n : ℕ} (v : Valid G S b) → preorder (v .tree) ≡ nodesFrom w n 0 → n ≡ size (v .tree) → Reads G S b w (Tree n)
   none : (Valid G S b → ⊥) → Reads G S b w NoTree
 
-module _ (rows : List ℕ) (t n start count S : ℕ) (b w : List ℕ) where
-  abbrev G· : Grammar
-  G· = gram rows t n start count S b
-
+module _ {rows : List ℕ} {head : Head} {S : ℕ} {b w : List ℕ} where
   -- the walk went astray
-  pub reads-astray : (r : Course) → Wandered rows t n start count S b w r → r ≡ Astray → Reads G· S b w NoTree
-  reads-astray r (Wandered.through l h) e = never (cc)
-  reads-astray r (Wandered.astray h) e = Reads.none (λ v. h .no (preorder (v .tree)) (valid-found v .walks) (valid-found v .once) (valid-few v))
+  pub reads-astray : {r : Course} → Wandered rows head S b w r → r ≡ Astray → Reads (grammarIn rows head) S b w NoTree
+  reads-astray (Wandered.through l h) e = never (cc)
+  reads-astray (Wandered.astray h) e = Reads.none (λ v. h .no (preorder (v .tree)) (valid-found v .walks) (valid-found v .once) (valid-few v))
 
-  module _ (r : Course) (i leaves : ℕ) (h : Wandered rows t n start count S b w r) (e : r ≡ Through i leaves) where
-    ended : Ended rows t n start count S b w i leaves
+  module _ {r : Course} {i leaves : ℕ} (h : Wandered rows head S b w r) (e : r ≡ Through i leaves) where
+    ended : Ended rows head S b w i leaves
     ended = go h e
       where
-        go : {r : Course} → Wandered rows t n start count S b w r → r ≡ Through i leaves → Ended rows t n start count S b w i leaves
+        go : {r : Course} → Wandered rows head S b w r → r ≡ Through i leaves → Ended rows head S b w i leaves
         go (Wandered.through {i = j} {leaves = k} l h) e =
             let q : j ≡ i = cc in
             let o : k ≡ leaves = cc in
@@ -259,27 +258,27 @@ module _ (rows : List ℕ) (t n start count S : ℕ) (b w : List ℕ) where
     pub wandered-few : (i ≤ S) × (leaves ≤ i)
     wandered-few = (go h e, omega (arith, ended .counted, leaves-few (nodesFrom w i 0), length-nodes w i 0))
       where
-        go : {r : Course} → Wandered rows t n start count S b w r → r ≡ Through i leaves → i ≤ S
+        go : {r : Course} → Wandered rows head S b w r → r ≡ Through i leaves → i ≤ S
         go (Wandered.through {i = j} l h) e = let q : j ≡ i = cc in omega arith
         go (Wandered.astray h) e = never (cc)
 
     -- the nodes of a valid tree are those that were written
-    same : (v : Valid G· S b) → preorder (v .tree) ≡ nodesFrom w i 0
+    same : (v : Valid (grammarIn rows head) S b) → preorder (v .tree) ≡ nodesFrom w i 0
     same v = going-one (nodesFrom w i 0) (preorder (v .tree)) (ended .going) (valid-found v .walks)
 
-    pub reads-header : (Heads b i leaves → ⊥) → Reads G· S b w NoTree
+    pub reads-header : (Heads b i leaves → ⊥) → Reads (grammarIn rows head) S b w NoTree
     reads-header k =
         Reads.none (λ v. let q = same v in
         let o : slotAt b 0 ≡ headerBytes (get16 b rootPlace) (length (nodesFrom w i 0)) (leafCount (nodesFrom w i 0)) = rw q at (valid-found v .header) in
         k (record { is = rw (← length-nodes w i 0, ended .counted) o }))
 
-    pub reads-spoilt : (m : List ℕ) → m ≡ marksIn S w → (ClearTo b m (S + 1) → ⊥) → Reads G· S b w NoTree
+    pub reads-spoilt : (m : List ℕ) → m ≡ marksIn S w → (ClearTo b m (S + 1) → ⊥) → Reads (grammarIn rows head) S b w NoTree
     reads-spoilt m q k =
         let k' : ClearTo b (marksIn S w) (S + 1) → ⊥ = rw q at k in
         Reads.none (λ v. let f : Free S b (nodesFrom w i 0) = rw (same v) at (valid-found v .free) in
         k' (record { each = λ x a c. record { zero = λ z. f .zero x a (omega arith) (λ y. omega (arith, z, ended .marked .marked x y)) } }))
 
-    pub reads-tree : 1 ≤ S → S ≤ maxSlots → length b ≡ areaSize S → Heads b i leaves → (m : List ℕ) → m ≡ marksIn S w → ClearTo b m (S + 1) → Reads G· S b w (Tree i)
+    pub reads-tree : 1 ≤ S → S ≤ maxSlots → length b ≡ areaSize S → Heads b i leaves → (m : List ℕ) → m ≡ marksIn S w → ClearTo b m (S + 1) → Reads (grammarIn rows head) S b w (Tree i)
     reads-tree o few long hd m e h =
         let cl : ClearTo b (marksIn S w) (S + 1) = rw e at h in
         let es = nodesFrom w i 0 in

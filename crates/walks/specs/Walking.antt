@@ -9,6 +9,7 @@ use native.Mathlib.Omega.{arith}
 use Rattle.base.specs.Choose.{never}
 use Rattle.base.specs.Bytes.{byteAt, get16}
 use Rattle.base.specs.Blocks.{zeros}
+use Rattle.grammar.specs.declared.Head.{Head}
 use Rattle.grammar.specs.Each.{Each, each-join, each-head}
 use Rattle.grammar.specs.Grammar.{Grammar}
 use Rattle.grammar.specs.Rows.{symbolSpace, grammarIn}
@@ -48,9 +49,9 @@ length-slotsOf : (es : List Node) → length (slotsOf es) ≡ length es
 length-slotsOf [] = refl
 length-slotsOf (e ∷ es) = ap suc (length-slotsOf es)
 
-module _ (rows : List ℕ) (t n start count S : ℕ) (b : List ℕ) where
+module _ (rows : List ℕ) (head : Head) (S : ℕ) (b : List ℕ) where
   abbrev pub gram : Grammar
-  gram = grammarIn rows t n start count
+  gram = grammarIn rows head
 
   abbrev pub origin : List Frame
   origin = rootFrame gram b ∷ []
@@ -85,12 +86,12 @@ module _ (rows : List ℕ) (t n start count S : ℕ) (b : List ℕ) where
     through : {i leaves : ℕ} → i ≤ S → Ended w i leaves → Wandered w (Through i leaves)
     astray : Lost gram S b origin → Wandered w Astray
 
-  pub walking-start : (w : List ℕ) (top root : ℕ) → root ≡ get16 b rootPlace → marksIn S w ≡ set (zeros (S + 1)) 0 1 → top ≡ nodeSize * S → start < symbolSpace
-      → Walking w top 0 0 root 0 ((64 + start) % 64) ((64 + start) / 128)
+  pub walking-start : (w : List ℕ) (top root : ℕ) → root ≡ get16 b rootPlace → marksIn S w ≡ set (zeros (S + 1)) 0 1 → top ≡ nodeSize * S → head .start < symbolSpace
+      → Walking w top 0 0 root 0 ((64 + head .start) % 64) ((64 + head .start) / 128)
   unfolding grammarIn
   walking-start w top root e z o ls =
-      let es : (64 + start) % 64 ≡ start = omega arith in
-      let er : (64 + start) / 128 ≡ 0 = omega arith in
+      let es : (64 + head .start) % 64 ≡ head .start = omega arith in
+      let er : (64 + head .start) / 128 ≡ 0 = omega arith in
       let y : Waits (rootFrame gram b) = record { some = λ y. never (cc) } in
       let g : Going gram S b origin [] (rootFrame gram b ∷ []) = going-start (rootFrame gram b) y in
       record {
@@ -110,12 +111,12 @@ module _ (rows : List ℕ) (t n start count S : ℕ) (b : List ℕ) where
   record Entered (w : List ℕ) (i s par x : ℕ) (k : Kids) (w' : List ℕ) : Type 0 where
     within : s ≤ S
     free : byteAt (marksIn S w) s ≡ 0
-    meets : Meets rows t count b s par x k
+    meets : Meets rows (head .t) (head .count) b s par x k
     nodes : nodesFrom w' (i + 1) 0 ≡ nodesFrom w i 0 ++ (nodeOf s (symbolIn b s) (productionIn b s) (tagIn b s) ∷ [])
     marks : marksIn S w' ≡ set (marksIn S w) s 1
     others : (j : ℕ) → nodeSize * i + nodeSize ≤ j → j < marksAt S → byteAt w' j ≡ byteAt w j
 
-  entered : {w w' : List ℕ} {i s par x : ℕ} {k : Kids} → i ≤ S → (k ≡ Unfit → ⊥) → Visited rows t count S b s par x w i w' k → Entered w i s par x k w'
+  entered : {w w' : List ℕ} {i s par x : ℕ} {k : Kids} → i ≤ S → (k ≡ Unfit → ⊥) → Visited rows (head .t) (head .count) S b s par x w i w' k → Entered w i s par x k w'
   entered {w} {w'} {i} {s} li n (Visited.over y) = absurd (n refl)
   entered {w} {w'} {i} {s} li n (Visited.marked y z) = absurd (n refl)
   entered {w} {w'} {i} {s} li n (Visited.unfit y) = absurd (n refl)
@@ -137,18 +138,18 @@ module _ (rows : List ℕ) (t n start count S : ℕ) (b : List ℕ) where
     pub walking-leaves : leaves ≤ i
     walking-leaves = omega (arith, h .gone .counted, leaves-few (nodesFrom w i 0), length-nodes w i 0)
 
-    module _ {w1 : List ℕ} {r : Kids} (v : Visited rows t count S b s par x w i w1 r) where
+    module _ {w1 : List ℕ} {r : Kids} (v : Visited rows (head .t) (head .count) S b s par x w i w1 r) where
       -- ---- where there is no walk
 
       pub wandered-unfit : (w' : List ℕ) → r ≡ Unfit → Wandered w' Astray
       wandered-unfit w' e = Wandered.astray (go v e)
         where
-          go : {r : Kids} → Visited rows t count S b s par x w i w1 r → r ≡ Unfit → Lost gram S b origin
+          go : {r : Kids} → Visited rows (head .t) (head .count) S b s par x w i w1 r → r ≡ Unfit → Lost gram S b origin
           go (Visited.met n l z m p q) e = absurd (n e)
           go (Visited.over z) e = lost-over (nodesFrom w i 0) (h .gone .going) z
           go (Visited.marked l z) e = lost-marked (nodesFrom w i 0) (h .gone .going) (marksIn S w) (h .gone .marked) (λ o. z (sym (mark-at S w s l) ∙ o))
-          go (Visited.unfit z) e = lost-stuck (nodesFrom w i 0) (h .gone .going) (stuck-unfit rows t n start count S b s par x (h .symbols) (h .frames) (h .low) z)
-          go (Visited.stray z o u) e = lost-stuck (nodesFrom w i 0) (h .gone .going) (stuck-stray rows t n start count S b s par x (h .symbols) (h .frames) (h .low) z o u)
+          go (Visited.unfit z) e = lost-stuck (nodesFrom w i 0) (h .gone .going) (stuck-unfit rows head S b s par x (h .symbols) (h .frames) (h .low) z)
+          go (Visited.stray z o u) e = lost-stuck (nodesFrom w i 0) (h .gone .going) (stuck-stray rows head S b s par x (h .symbols) (h .frames) (h .low) z o u)
 
       module _ {body leaves' : ℕ} (tk : Taken r leaves body leaves') where
         en : Entered w i s par x r w1
@@ -160,7 +161,7 @@ module _ (rows : List ℕ) (t n start count S : ℕ) (b : List ℕ) where
 
         pub wandered-behind : (w' : List ℕ) (u : ℕ) → u ≡ nextIn b s → (u ≡ 0 → ⊥) → rest ≡ 0 → Wandered w' Astray
         wandered-behind w' u e z y =
-            Wandered.astray (lost-stuck (nodesFrom w i 0) (h .gone .going) (stuck-behind rows t n start count S b s par x (h .symbols) (h .frames) (h .low) (λ o. z (e ∙ o)) (digits-none (h .digits) y)))
+            Wandered.astray (lost-stuck (nodesFrom w i 0) (h .gone .going) (stuck-behind rows head S b s par x (h .symbols) (h .frames) (h .low) (λ o. z (e ∙ o)) (digits-none (h .digits) y)))
 
         -- ---- a turn
 
@@ -181,13 +182,13 @@ module _ (rows : List ℕ) (t n start count S : ℕ) (b : List ℕ) where
 
         module _ (lw : walkSize S ≤ length w) (few : S ≤ maxSlots) (next : ℕ) (ex : next ≡ nextIn b s) (ln : next < 65536) where
           abbrev e : Node
-          e = written rows t n start count S b s par x (h .symbols)
+          e = written rows head S b s par x (h .symbols)
 
           abbrev f : Frame
-          f = ahead rows t n start count S b s par x (h .symbols)
+          f = ahead rows head S b s par x (h .symbols)
 
           abbrev g : Frame
-          g = behind rows t n start count S b s par x (h .symbols)
+          g = behind rows head S b s par x (h .symbols)
 
           turned : {hs : List Frame} → Turn gram S b f (h .frames) e hs → Gone w1 (i + 1) leaves' hs
           turned y =
@@ -210,7 +211,7 @@ module _ (rows : List ℕ) (t n start count S : ℕ) (b : List ℕ) where
             -- the next of the siblings
             pub walking-next : (rest ≡ 0 → ⊥) → Walking w1 top (i + 1) leaves' next par (rest % 64) (rest / 128)
             walking-next nr =
-                let st = stands-bare rows t n start count S b s par x (h .symbols) (en .meets) (tk .counts) eb (rw ex at ln) in
+                let st = stands-bare rows head S b s par x (h .symbols) (en .meets) (tk .counts) eb (rw ex at ln) in
                 let q = digits-split (h .digits) nr in
                 let wt : Waits g = record { some = λ y. never (let o = q .is in cc) } in
                 let y : Turn gram S b f (h .frames) e (g ∷ h .frames) =
@@ -232,7 +233,7 @@ module _ (rows : List ℕ) (t n start count S : ℕ) (b : List ℕ) where
 
             up : rest ≡ 0 → next ≡ 0 → Gone w1 (i + 1) leaves' (h .frames)
             up zr zn =
-                let st = stands-bare rows t n start count S b s par x (h .symbols) (en .meets) (tk .counts) eb (rw ex at ln) in
+                let st = stands-bare rows head S b s par x (h .symbols) (en .meets) (tk .counts) eb (rw ex at ln) in
                 turned (record { within = some; below = frame 0 s []; behind = g; stands = st; gs = h .frames; later = Kept.left (sym ex ∙ zn) (digits-none (h .digits) zr); sooner = Kept.left refl refl })
 
             -- the last frame
@@ -268,8 +269,8 @@ module _ (rows : List ℕ) (t n start count S : ℕ) (b : List ℕ) where
                 go pl (Held.cons a c d o) y = absurd (omega (arith, pl, zt))
 
           module _ (nb : body ≡ 0 → ⊥) (first : ℕ) (ef : first ≡ firstIn b s) (lf : first < 65536) where
-            bears : Bears rows t n start count S b s par x (h .symbols) body
-            bears = stands-bearing rows t n start count S b s par x (h .symbols) (en .meets) (tk .counts) nb (rw ef at lf) (rw ex at ln)
+            bears : Bears rows head S b s par x (h .symbols) body
+            bears = stands-bearing rows head S b s par x (h .symbols) (en .meets) (tk .counts) nb (rw ef at lf) (rw ex at ln)
 
             apart : Split (bears .symbols) body
             apart = digits-split (bears .digits) nb

@@ -6,6 +6,7 @@
 mod closing;
 mod words;
 
+use grammar::Head;
 ghost use mathlib.Core.Path.{_≡_};
 ghost use Prim.Native.Nat.{_+_, _*_, _<_, _≤_};
 ghost use lib.ListN.{length, set};
@@ -217,14 +218,11 @@ fn wander(
     slots: usize,
     rows: &[u8],
     words: &[usize],
-    t: usize,
-    n: usize,
-    start: usize,
-    count: usize,
+    head: Head,
     w: &mut [u8],
 ) -> Course
-    requires { ⌜ (slots ≤ maxSlots) × (length (now area) ≡ areaSize slots) × (length (now words) ≡ wordCount) × Worded (now rows) count (now words) × (walkSize slots ≤ length (now w)) × (start < symbolSpace) ⌝ }
-    ensures { λ r. ⌜ Wandered (now (rows .entry)) t n start count slots (now (area .entry)) (now (w .exit)) r ⌝ }
+    requires { ⌜ (slots ≤ maxSlots) × (length (now area) ≡ areaSize slots) × (length (now words) ≡ wordCount) × Worded (now rows) (head .count) (now words) × (walkSize slots ≤ length (now w)) × (head .start < symbolSpace) ⌝ }
+    ensures { λ r. ⌜ Wandered (now (rows .entry)) head slots (now (area .entry)) (now (w .exit)) r ⌝ }
 {
     fresh(w, slots);
     let bottom = trees::NODE_SIZE * slots;
@@ -233,15 +231,15 @@ fn wander(
     let mut leaves: usize = 0;
     let mut s = base::two(area, trees::ROOT_PLACE);
     let mut par: usize = 0;
-    let mut due = words::DIGIT + start;
+    let mut due = words::DIGIT + head.start;
     loop {
         let body = match visit(
             area,
             slots,
             rows,
             words,
-            t,
-            count,
+            head.t,
+            head.count,
             s,
             par,
             due % words::DIGIT,
@@ -292,39 +290,21 @@ fn wander(
 }
 
 // The same, with the productions' words made first.
-fn walk(
-    area: &[u8],
-    slots: usize,
-    rows: &[u8],
-    t: usize,
-    n: usize,
-    start: usize,
-    count: usize,
-    w: &mut [u8],
-) -> Course
-    requires { ⌜ (slots ≤ maxSlots) × (length (now area) ≡ areaSize slots) × (walkSize slots ≤ length (now w)) × (start < symbolSpace) ⌝ }
-    ensures { λ r. ⌜ Wandered (now (rows .entry)) t n start count slots (now (area .entry)) (now (w .exit)) r ⌝ }
+fn walk(area: &[u8], slots: usize, rows: &[u8], head: Head, w: &mut [u8]) -> Course
+    requires { ⌜ (slots ≤ maxSlots) × (length (now area) ≡ areaSize slots) × (walkSize slots ≤ length (now w)) × (head .start < symbolSpace) ⌝ }
+    ensures { λ r. ⌜ Wandered (now (rows .entry)) head slots (now (area .entry)) (now (w .exit)) r ⌝ }
 {
     let mut words = [0usize; words::WORDS];
-    words::fill_words(rows, count, &mut words);
-    wander(area, slots, rows, &words, t, n, start, count, w)
+    words::fill_words(rows, head.count, &mut words);
+    wander(area, slots, rows, &words, head, w)
 }
 
 // Walks an area of whatever bytes back into the list of its nodes, at the beginning of `work`, or finds that it is no valid tree of the grammar in the rows.
-pub fn read_tree(
-    area: &[u8],
-    slots: usize,
-    rows: &[u8],
-    t: usize,
-    n: usize,
-    start: usize,
-    count: usize,
-    work: &mut [u8],
-) -> Walked
-    requires { ⌜ (1 ≤ slots) × (slots ≤ maxSlots) × (length (now area) ≡ areaSize slots) × (walkSize slots ≤ length (now work)) × (start < symbolSpace) ⌝ }
-    ensures { λ r. ⌜ Reads (grammarIn (now (rows .entry)) t n start count) slots (now (area .entry)) (now (work .exit)) r ⌝ }
+pub fn read_tree(area: &[u8], slots: usize, rows: &[u8], head: Head, work: &mut [u8]) -> Walked
+    requires { ⌜ (1 ≤ slots) × (slots ≤ maxSlots) × (length (now area) ≡ areaSize slots) × (walkSize slots ≤ length (now work)) × (head .start < symbolSpace) ⌝ }
+    ensures { λ r. ⌜ Reads (grammarIn (now (rows .entry)) head) slots (now (area .entry)) (now (work .exit)) r ⌝ }
 {
-    let Course::Through(nodes, leaves) = walk(area, slots, rows, t, n, start, count, work) else {
+    let Course::Through(nodes, leaves) = walk(area, slots, rows, head, work) else {
         return Walked::NoTree;
     };
     if closing::heads(area, nodes, leaves) {

@@ -7,6 +7,10 @@ use borrow.Author.Needs.{needs}
 use Rattle.altering.proofs.alter.Statement.{statement}
 use Rattle.altering.proofs.alter.Tie as tie
 
+-- where the edit began, of the new sentence formed
+abbrev entry : tie.After-new-sentence → tie.Start
+entry c = c .before .before .before .before .before .before .before
+
 add-text : tie.Need-add-text
 add-text c = search needs
 
@@ -17,7 +21,7 @@ add-new-sentence : tie.Need-add-new-sentence
 add-new-sentence c = search needs
 
 new-sentence-requires : tie.Need-new-sentence-requires
-new-sentence-requires c κs = let f = treed-sized _ _ _ _ _ _ _ _ _ (c .before .before .before .before .before .before .pre .2) in (search needs, sentence-long _ (c .before .before .before .before .before .before .pre .3), search needs)
+new-sentence-requires c κs = let p = c .before .before .before .before .before .before .pre in let f = treed-sized _ _ _ _ _ _ (p .2) in (search needs, sentence-long _ (p .3), search needs)
 
 mul-parse : tie.Need-mul-parse
 mul-parse c = search needs
@@ -32,13 +36,13 @@ part-parse-end : tie.Need-part-parse-end
 part-parse-end c = search needs
 
 parse-requires : tie.Need-parse-requires
-parse-requires c κs = let f = treed-sized _ _ _ _ _ _ _ _ _ (c .before .before .before .before .before .before .before .before .before .before .pre .2) in (course-ground _ _ _ _ _ _ _ _ _ _ _ _ _ (c .before .before .before .before .before .before .before .before .before .before .pre .0) (c .before .before .before .before .before .before .before .before .before .before .pre .2) (c .before .before .before .before .before .before .before .before .before .before .pre .3) (c .before .before .before .new-sentence .ensures .1) (c .before .before .before .new-sentence .ensures .0) refl (c .before .before .before .before .before .before .before .before .before .before .pre .1), search needs, search needs, search needs)
+parse-requires c κs = let n = c .before .before .before in let p = entry n .pre in let e = n .new-sentence .ensures in let f = treed-sized _ _ _ _ _ _ (p .2) in (course-ground _ _ _ _ _ (p .0) (p .2) (p .3) (e .1) (e .0) refl (p .1), search needs, search needs, search needs)
 
 enum-known-k : tie.Need-enum-known-k
 enum-known-k c = search needs
 
 settle-requires : tie.Need-settle-requires
-settle-requires c κs = let f = treed-sized _ _ _ _ _ _ _ _ _ (c .before .before .before .before .before .before .before .before .before .before .before .before .before .before .before .before .before .before .pre .2) in (course-doubled _ _ _ _ _ _ _ _ _ _ _ _ _ (c .before .before .before .before .before .before .before .before .before .before .before .before .before .before .before .before .before .before .pre .0) (c .before .before .before .before .before .before .before .before .before .before .before .before .before .before .before .before .before .before .pre .2) (c .before .before .before .before .before .before .before .before .before .before .before .before .before .before .before .before .before .before .pre .3) (c .before .before .before .before .before .before .before .before .before .before .before .new-sentence .ensures .1) (c .before .before .before .before .before .before .before .before .before .before .before .new-sentence .ensures .0) refl (search needs) (c .before .before .before .before .before .before .before .before .before .before .before .before .before .before .before .before .before .before .pre .4) _ (is-done _ (c .before .before .before .before .before .before .before .parse .ensures) (search needs)) (treed-long _ _ _ _ _ _ _ _ _ (c .before .before .before .before .before .before .before .before .before .before .before .before .before .before .before .before .before .before .pre .2) (c .before .before .before .before .before .before .before .before .before .before .before .before .before .before .before .before .before .before .pre .5)), treed-room _ _ _ _ _ _ _ _ _ (c .before .before .before .before .before .before .before .before .before .before .before .before .before .before .before .before .before .before .pre .2) _ (c .before .before .before .before .before .before .before .before .before .before .before .before .before .before .before .before .before .before .pre .5) (search needs))
+settle-requires c κs = let n = c .before .before .before .before .before .before .before .before .before .before .before in let p = entry n .pre in let e = n .new-sentence .ensures in let f = treed-sized _ _ _ _ _ _ (p .2) in (course-doubled _ _ _ _ _ (p .0) (p .2) (p .3) (e .1) (e .0) refl (search needs) (p .4) _ (is-done _ (c .before .before .before .before .before .before .before .parse .ensures) (search needs)) (treed-long _ _ _ _ _ _ (p .2) (p .5)), treed-room _ _ _ _ _ _ (p .2) _ (p .5) (search needs))
 
 enum-known-token : tie.Need-enum-known-token
 enum-known-token c = search needs
@@ -53,19 +57,19 @@ same-length-2 : tie.Need-same-length-2
 same-length-2 c = search needs
 
 returns : tie.Need-returns
-returns c = let f = treed-sized _ _ _ _ _ _ _ _ _ (c .before .before .before .before .before .before .before .before .before .before .before .before .before .before .before .before .before .before .before .before .before .before .before .pre .2) in (course-settled _ _ _ _ _ _ _ _ _ _ _ _ _ (c .before .before .before .before .before .before .before .before .before .before .before .before .before .before .before .before .before .before .before .before .before .before .before .pre .0) (c .before .before .before .before .before .before .before .before .before .before .before .before .before .before .before .before .before .before .before .before .before .before .before .pre .2) (c .before .before .before .before .before .before .before .before .before .before .before .before .before .before .before .before .before .before .before .before .before .before .before .pre .3) (c .before .before .before .before .before .before .before .before .before .before .before .before .before .before .before .before .new-sentence .ensures .1) (c .before .before .before .before .before .before .before .before .before .before .before .before .before .before .before .before .new-sentence .ensures .0) refl (search needs) (c .before .before .before .before .before .before .before .before .before .before .before .before .before .before .before .before .before .before .before .before .before .before .before .pre .4) _ (is-done _ (c .before .before .before .before .before .before .before .before .before .before .before .before .parse .ensures) (search needs)) (treed-long _ _ _ _ _ _ _ _ _ (c .before .before .before .before .before .before .before .before .before .before .before .before .before .before .before .before .before .before .before .before .before .before .before .pre .2) (c .before .before .before .before .before .before .before .before .before .before .before .before .before .before .before .before .before .before .before .before .before .before .before .pre .5)) (c .before .before .before .before .settle .ensures .0), few-altered (c .before .before .before .before .settle .ensures .1) (c .before .before .before .before .settle .ensures .2) (course-fits _ _ _ _ _ _ _ _ _ _ _ _ _ (c .before .before .before .before .before .before .before .before .before .before .before .before .before .before .before .before .before .before .before .before .before .before .before .pre .0) (c .before .before .before .before .before .before .before .before .before .before .before .before .before .before .before .before .before .before .before .before .before .before .before .pre .2) (c .before .before .before .before .before .before .before .before .before .before .before .before .before .before .before .before .before .before .before .before .before .before .before .pre .3) (c .before .before .before .before .before .before .before .before .before .before .before .before .before .before .before .before .new-sentence .ensures .1) (c .before .before .before .before .before .before .before .before .before .before .before .before .before .before .before .before .new-sentence .ensures .0) refl (search needs) (c .before .before .before .before .before .before .before .before .before .before .before .before .before .before .before .before .before .before .before .before .before .before .before .pre .4) _ (is-done _ (c .before .before .before .before .before .before .before .before .before .before .before .before .parse .ensures) (search needs)) (treed-long _ _ _ _ _ _ _ _ _ (c .before .before .before .before .before .before .before .before .before .before .before .before .before .before .before .before .before .before .before .before .before .before .before .pre .2) (c .before .before .before .before .before .before .before .before .before .before .before .before .before .before .before .before .before .before .before .before .before .before .before .pre .5))) (f .1))
+returns c = let n = c .before .before .before .before .before .before .before .before .before .before .before .before .before .before .before .before in let p = entry n .pre in let e = n .new-sentence .ensures in let f = treed-sized _ _ _ _ _ _ (p .2) in let s = c .before .before .before .before .settle .ensures in (course-settled _ _ _ _ _ (p .0) (p .2) (p .3) (e .1) (e .0) refl (search needs) (p .4) _ (is-done _ (c .before .before .before .before .before .before .before .before .before .before .before .before .parse .ensures) (search needs)) (treed-long _ _ _ _ _ _ (p .2) (p .5)) (s .0), few-altered (s .1) (s .2) (course-fits _ _ _ _ _ (p .0) (p .2) (p .3) (e .1) (e .0) refl (search needs) (p .4) _ (is-done _ (c .before .before .before .before .before .before .before .before .before .before .before .before .parse .ensures) (search needs)) (treed-long _ _ _ _ _ _ (p .2) (p .5))) (f .1))
 
 same-length-3 : tie.Need-same-length-3
 same-length-3 c = search needs
 
 returns-2 : tie.Need-returns-2
-returns-2 c = (course-syntax _ _ _ _ _ _ _ _ _ _ _ _ _ (c .before .before .before .before .before .before .before .before .before .before .before .before .before .before .before .before .pre .0) (c .before .before .before .before .before .before .before .before .before .before .before .before .before .before .before .before .pre .2) (c .before .before .before .before .before .before .before .before .before .before .before .before .before .before .before .before .pre .3) (c .before .before .before .before .before .before .before .before .before .new-sentence .ensures .1) (c .before .before .before .before .before .before .before .before .before .new-sentence .ensures .0) refl (search needs) _ _ (c .before .before .before .before .before .parse .ensures) (search needs), Few.wrong-syntax)
+returns-2 c = let n = c .before .before .before .before .before .before .before .before .before in let p = entry n .pre in let e = n .new-sentence .ensures in (course-syntax _ _ _ _ _ (p .0) (p .2) (p .3) (e .1) (e .0) refl (search needs) _ _ (c .before .before .before .before .before .parse .ensures) (search needs), Few.wrong-syntax)
 
 same-length-4 : tie.Need-same-length-4
 same-length-4 c = search needs
 
 returns-3 : tie.Need-returns-3
-returns-3 c = (course-room _ _ _ _ _ _ _ _ _ _ _ _ _ (c .before .before .before .before .before .before .before .before .before .before .before .before .before .before .before .pre .0) (c .before .before .before .before .before .before .before .before .before .before .before .before .before .before .before .pre .2) (c .before .before .before .before .before .before .before .before .before .before .before .before .before .before .before .pre .3) (c .before .before .before .before .before .before .before .before .new-sentence .ensures .1) (c .before .before .before .before .before .before .before .before .new-sentence .ensures .0) refl (search needs) (c .before .before .before .before .parse .ensures) (search needs), Few.no-room)
+returns-3 c = let n = c .before .before .before .before .before .before .before .before in let p = entry n .pre in let e = n .new-sentence .ensures in (course-room _ _ _ _ _ (p .0) (p .2) (p .3) (e .1) (e .0) refl (search needs) (c .before .before .before .before .parse .ensures) (search needs), Few.no-room)
 
 pub alter-spec : {M : Type 1} → statement M
 alter-spec =

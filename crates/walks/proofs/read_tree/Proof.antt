@@ -4,6 +4,10 @@ use borrow.Author.Needs.{needs}
 use Rattle.walks.proofs.read_tree.Statement.{statement}
 use Rattle.walks.proofs.read_tree.Tie as tie
 
+-- the walk that the nodes are of
+abbrev walked : tie.After-nodes → tie.After-walk
+walked c = c .before .before .before .before
+
 walk-requires : tie.Need-walk-requires
 walk-requires c κs = search needs
 
@@ -17,10 +21,10 @@ same-length : tie.Need-same-length
 same-length c = search needs
 
 returns : tie.Need-returns
-returns c = reads-astray _ _ _ _ _ _ _ _ _ (c .before .before .before .before .walk .ensures) (c .enum-told .given .1)
+returns c = reads-astray (c .before .before .before .before .walk .ensures) (c .enum-told .given .1)
 
 heads-requires : tie.Need-heads-requires
-heads-requires c κs = let h = wandered-few _ _ _ _ _ _ _ _ _ _ _ (c .before .before .before .before .before .walk .ensures) (c .before .nodes .given .1) in search needs
+heads-requires c κs = let n = c .before in let h = wandered-few (walked n .walk .ensures) (n .nodes .given .1) in search needs
 
 marks-at-requires : tie.Need-marks-at-requires
 marks-at-requires c κs = search needs
@@ -47,19 +51,19 @@ same-length-2 : tie.Need-same-length-2
 same-length-2 c = search needs
 
 returns-2 : tie.Need-returns-2
-returns-2 c = reads-tree _ _ _ _ _ _ _ _ _ _ _ (c .before .before .before .before .before .before .before .before .before .before .before .before .walk .ensures) (c .before .before .before .before .before .before .before .before .nodes .given .1) (search needs) (search needs) (search needs) (c .before .before .before .before .before .before .heads .ensures .yes (search needs)) _ (marks-part _ _ _ (c .before .before .before .before .marks-at .ensures)) (c .before .all-clear .ensures .yes (search needs))
+returns-2 c = let n = c .before .before .before .before .before .before .before .before in reads-tree (walked n .walk .ensures) (n .nodes .given .1) (search needs) (search needs) (search needs) (c .before .before .before .before .before .before .heads .ensures .yes (search needs)) _ (marks-part _ _ _ (c .before .before .before .before .marks-at .ensures)) (c .before .all-clear .ensures .yes (search needs))
 
 same-length-3 : tie.Need-same-length-3
 same-length-3 c = search needs
 
 returns-3 : tie.Need-returns-3
-returns-3 c = reads-spoilt _ _ _ _ _ _ _ _ _ _ _ (c .before .before .before .before .before .before .before .before .before .before .before .before .walk .ensures) (c .before .before .before .before .before .before .before .before .nodes .given .1) _ (marks-part _ _ _ (c .before .before .before .before .marks-at .ensures)) (c .before .all-clear .ensures .no (search needs))
+returns-3 c = let n = c .before .before .before .before .before .before .before .before in reads-spoilt (walked n .walk .ensures) (n .nodes .given .1) _ (marks-part _ _ _ (c .before .before .before .before .marks-at .ensures)) (c .before .all-clear .ensures .no (search needs))
 
 same-length-4 : tie.Need-same-length-4
 same-length-4 c = search needs
 
 returns-4 : tie.Need-returns-4
-returns-4 c = reads-header _ _ _ _ _ _ _ _ _ _ _ (c .before .before .before .before .before .before .before .walk .ensures) (c .before .before .before .nodes .given .1) (c .before .heads .ensures .no (search needs))
+returns-4 c = let n = c .before .before .before in reads-header (walked n .walk .ensures) (n .nodes .given .1) (c .before .heads .ensures .no (search needs))
 
 pub read-tree-spec : {M : Type 1} → statement M
 read-tree-spec =
