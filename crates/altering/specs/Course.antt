@@ -19,16 +19,15 @@ use Rattle.trees.specs.Coded.{nodeSize, nodesFrom}
 use Rattle.trees.specs.Listing.{nodes-kept}
 use Rattle.walks.specs.Reading.{valid-one, valid-header}
 use Rattle.plain.specs.Exactly.{accepted-exactly}
-use Rattle.plain.specs.Tokens.{tokenSize, Sentence, tokensFrom, length-tokens}
+use Rattle.plain.specs.Tokens.{tokenSize, Sentence, length-token-bytes, tokensFrom, length-tokens}
 use Rattle.plain.specs.Text.{textIn}
 use Rattle.notes.specs.Views.{nodesIn, withPart, nodes-in}
 use Rattle.plain.specs.Machine.{Ground, Done}
 use Rattle.plain.specs.Outcome.{Ran, is-wrong, is-full}
 use Rattle.plain.specs.declared.Parsed.{Parsed}
-use Rattle.edits.specs.Keeping.{Edit}
+use Rattle.edits.specs.Keeping.{Edit, editOf}
 use Rattle.matching.specs.Finding.{Numbers}
-use Rattle.sentences.specs.Adding.{length-token-bytes}
-use Rattle.sentences.specs.Forming.{editOf, NewSentence}
+use Rattle.sentences.specs.Forming.{NewSentence}
 use Rattle.sentences.specs.Behind.{Fronted}
 use Rattle.sentences.specs.Grounding.{partOf, ground-of, parses-of, whole-of}
 use Rattle.altering.specs.declared.Alteration.the-variants as Alteration

@@ -10,7 +10,7 @@ use Rattle.grammar.specs.Grammar.{Grammar}
 use Rattle.grammar.specs.Forest.{size, yield}
 use Rattle.grammar.specs.Rows.{lengthAt, grammarIn}
 use Rattle.grammar.specs.RowRules.{rule-row}
-use Rattle.trees.specs.Area.{maxSlots, areaSize, Valid}
+use Rattle.trees.specs.Area.{maxSlots, areaSize, workAreas, Valid}
 use Rattle.trees.specs.Nodes.{preorder, leavesOf, leaves-yield, Arity, derives-formed, size-preorder}
 use Rattle.trees.specs.Coded.{nodeSize, nodesFrom, arityIn}
 use Rattle.notes.specs.Views.{notesSize}
@@ -18,10 +18,6 @@ use Rattle.plain.specs.Machine.{length-symbols}
 use Rattle.walks.specs.Reading.{valid-few}
 use Rattle.walks.specs.Closing.{Reads}
 use Rattle.walks.specs.declared.Walked.{Walked}
-
--- "work shorter than three times the tree area"
-abbrev pub workAreas : ℕ
-workAreas = 3
 
 -- the rows say how many children a production has
 pub arity-rows : (rows : List ℕ) (head : Head) → Arity (grammarIn rows head) (arityIn rows)

@@ -4,14 +4,14 @@ use plain::Parsed;
 ghost use Prim.Native.Nat.{_+_, _*_, _≤_};
 ghost use lib.ListN.{length};
 ghost use Rattle.grammar.specs.Rows.{grammarIn};
-ghost use Rattle.trees.specs.Area.{tokensPlace};
+ghost use Rattle.trees.specs.Area.{tokensPlace, workAreas};
 ghost use Rattle.base.specs.Bytes.{get16};
 ghost use Rattle.grammar.specs.Prediction.{Prepared};
 ghost use Rattle.tables.specs.Tables.{Tables};
 ghost use Rattle.notes.specs.Views.{notesSize, nodesIn};
 ghost use Rattle.plain.specs.Tokens.{Sentence, tokensFrom};
-ghost use Rattle.sentences.specs.Forming.{editOf};
-ghost use Rattle.altering.specs.Treed.{workAreas, Treed};
+ghost use Rattle.edits.specs.Keeping.{editOf};
+ghost use Rattle.altering.specs.Treed.{Treed};
 ghost use Rattle.altering.specs.Outcome.{AltersTree, Few};
 ghost use Rattle.altering.specs.Altering.{Doubled, SettledAll};
 

@@ -1,4 +1,2 @@
--- Meaning: what edit does with a grammar that passes replies 1 to 3.
-pub mod Edits
--- The laws that the proofs cite.
+-- What the checks of edit say, and what an alteration says of the rest of the call.
 pub mod Editing

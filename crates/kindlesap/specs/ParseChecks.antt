@@ -1,5 +1,5 @@
--- The laws that the proof of parse cites: an accepted sentence's node list is its derivation tree in preorder, and is laid out so.
-use Prim.Native.Nat.{ℕ, zero, suc, _+_, _-_, _*_, _/_, _%_, _≤_, _<_}
+-- The laws that the proof of parse cites: an accepted sentence's node list is its derivation tree in preorder, and is laid out so; what each check on the way says of the call.
+use Prim.Native.Nat.{ℕ, zero, suc, _+_, _*_, _≤_, _<_}
 use mathlib.Core.Path.{_≡_, refl, sym, ap, _∙_, subst}
 use mathlib.Core.List.{List, [], _∷_, List·Memᴰ, List·Memᴰ·head, List·Memᴰ·tail}
 use lib.ListN.{length}
@@ -7,10 +7,11 @@ use native.Mathlib.Omega.{arith}
 use Rattle.grammar.specs.Each.{Each}
 use Rattle.grammar.specs.Grammar.{Grammar}
 use Rattle.grammar.specs.Prediction.{Prepared}
-use Rattle.grammar.specs.Forest.{Forest, size, Derives}
+use Rattle.grammar.specs.Forest.{Token, Forest, size, Derives}
 use Rattle.grammar.specs.Rows.{grammarIn}
+use Rattle.grammar.specs.declared.Head.{Head}
 use Rattle.tables.specs.Tables.{Tables}
-use Rattle.trees.specs.Area.{headerSize, slotSize, maxSlots, areaSize, slots, Distinct, Area}
+use Rattle.trees.specs.Area.{workAreas, slots, Distinct, Area}
 use Rattle.trees.specs.Nodes.{Node, preorder, lists-forest, build, Formed, build-preorder, derives-formed, Fed, fed-preorder, leavesOf, leaves-yield}
 use Rattle.trees.specs.Coded.{nodesFrom, length-nodes, arityIn}
 use Rattle.trees.specs.Spread.{slotsOf, Spread, slots-build, size-build}
@@ -25,9 +26,10 @@ use Rattle.altering.specs.Treed.{arity-rows}
 use Rattle.replies.specs.declared.Reply.{Reply}
 use Rattle.replies.specs.declared.Reason.the-variants as reasons
 use Rattle.replies.specs.declared.Reply.the-variants.{Accepted, Refused}
-use Rattle.order.specs.Order.{refused, passed, accepted, exactly, at}
-use Rattle.order.specs.Checks.{area, wrong-syntax, no-room}
-use Rattle.kindlesap.specs.Parse.{workAreas, Sized, upFrom, Stored, parseCounts, Fits}
+use Rattle.calls.specs.Order.{Outcome, refused, passed, accepted, exactly, at}
+use Rattle.calls.specs.Checks.{Sized, area, wrong-syntax, no-room}
+use Rattle.calls.specs.Parse.{upFrom, Stored, parseCounts, storeCall, parseWith, parseCall}
+use Rattle.calls.specs.CheckLaws.{Fit, given-passed}
 
 -- ---- slots 1, 2, ..
 
@@ -55,10 +57,9 @@ spread-from S es h l =
 
 -- ---- an accepted sentence
 
-module _ (rows : List ℕ) (t n start count : ℕ) (tables b : List ℕ) (m : ℕ) (g : Ground rows t n start count tables b m) (S : ℕ) (o : ℕ) (w : List ℕ) (l : 1 ≤ S)
-    (d : Done (grammarIn rows t n start count) S b m o w) where
+module _ (rows : List ℕ) (head : Head) (S : ℕ) (b : List ℕ) (m o : ℕ) (w : List ℕ) (l : 1 ≤ S) (d : Done (grammarIn rows head) S b m o w) where
   abbrev G : Grammar
-  G = grammarIn rows t n start count
+  G = grammarIn rows head
 
   abbrev es : List Node
   es = nodesFrom w o 0
@@ -70,7 +71,7 @@ module _ (rows : List ℕ) (t n start count : ℕ) (tables b : List ℕ) (m : �
   forest = lists-forest (d .lists)
 
   formed : Formed (arityIn rows) (forest .0)
-  formed = derives-formed (arityIn rows) (arity-rows rows t n start count) (forest .1)
+  formed = derives-formed (arityIn rows) (arity-rows rows head) (forest .1)
 
   built : build (arityIn rows) es ≡ forest .0
   built = rw (forest .2) at (build-preorder formed)
@@ -93,63 +94,48 @@ module _ (rows : List ℕ) (t n start count : ℕ) (tables b : List ℕ) (m : �
         order = rw built at (slots-build (arityIn rows) es) ∙ numbered-slots (d .numbered) ∙ ap (upFrom 1) (length-nodes w o 0 ∙ sym sized);
       }
 
-  pub done-accepted : (room : ℕ) (tree tree' : List ℕ) → Sized S tree → workAreas * length tree ≤ room → Sentence t b (tokensFrom b m 0) → Area S (build (arityIn rows) es) tree'
-      → Fits tables b room tree G (Accepted (parseCounts o)) tree'
-  unfolding grammarIn
-  done-accepted room tree tree' z k s a =
-      passed (g .tables) (passed z (passed k (passed s (passed (d .parses) (accepted (record { tree = forest .0; stored = done-stored; counts = ap parseCounts (sym sized); area = rw built at a }))))))
+  pub store-done : (tree tree' : List ℕ) → Area S (build (arityIn rows) es) tree' → Outcome (storeCall G S (tokensFrom b m 0)) tree (Accepted (parseCounts o)) tree'
+  store-done tree tree' a = passed (d .parses) (accepted (record { tree = forest .0; stored = done-stored; counts = ap parseCounts (sym sized); area = rw built at a }))
 
--- ---- the ways through parse
+-- ---- replies 9 and 10
 
--- the slots of an area of so many bytes, 0 where the length is wrong
-pub record Slotted (length slots : ℕ) : Type 0 where
-  pub right : (slots ≡ 0 → ⊥) → (1 ≤ slots) × (slots ≤ maxSlots) × (length ≡ areaSize slots)
-  pub wrong : slots ≡ 0 → (S : ℕ) → 1 ≤ S → S ≤ maxSlots → length ≡ areaSize S → ⊥
+module _ {G : Grammar} {S : ℕ} {b : List ℕ} {m : ℕ} {work : List ℕ} {r : Parsed} (u : Ran G S b m work r) (tree : List ℕ) where
+  pub store-9 : (i e : ℕ) → r ≡ Parsed.Syntax i e → Outcome (storeCall G S (tokensFrom b m 0)) tree (Refused (reasons.Syntax i e)) tree
+  store-9 i e q = refused (wrong-syntax (is-wrong i e u q))
 
-pub slotted-short : (n : ℕ) → n < headerSize + slotSize → Slotted n 0
-slotted-short n l = record { right = λ z. absurd (z refl); wrong = λ _ S a b e. omega arith }
-
-pub slotted-odd : (n : ℕ) → headerSize + slotSize ≤ n → ((n - headerSize) % slotSize ≡ 0 → ⊥) → Slotted n 0
-slotted-odd n l m = record { right = λ z. absurd (z refl); wrong = λ _ S a b e. m (omega arith) }
-
-pub slotted-long : (n S : ℕ) → headerSize + slotSize ≤ n → S ≡ (n - headerSize) / slotSize → maxSlots < S → Slotted n 0
-slotted-long n S l q m = record { right = λ z. absurd (z refl); wrong = λ _ T a b e. omega arith }
-
-pub slotted-right : (n S : ℕ) → headerSize + slotSize ≤ n → (n - headerSize) % slotSize ≡ 0 → S ≡ (n - headerSize) / slotSize → S ≤ maxSlots → Slotted n S
-slotted-right n S l z q m = record { right = λ _. (omega arith, m, omega arith); wrong = λ w. absurd (omega arith) }
-
-pub ruleset slotting = (slotted-short, slotted-odd, slotted-long, slotted-right)
-
-pub sized-of : {tree : List ℕ} {n S : ℕ} → Slotted n S → (S ≡ 0 → ⊥) → n ≡ length tree → Sized S tree
-sized-of h z e = let q = h .right z in record { some = q .0; few = q .1; long = sym e ∙ q .2 }
-
--- the same, of a work area of the same length
-pub fits-room : (tables tokens tree : List ℕ) (G : Grammar) (room room' : ℕ) (r : Reply) (tree' : List ℕ) → room ≡ room' → Fits tables tokens room tree G r tree' → Fits tables tokens room' tree G r tree'
-fits-room tables tokens tree G room room' r tree' e h = subst (λ n. Fits tables tokens n tree G r tree') e h
-
-pub area-wrong : {tree : List ℕ} {n S : ℕ} → Slotted n S → S ≡ 0 → n ≡ length tree → area tree .Fail reasons.WrongTree
-area-wrong h z e = exactly (λ T v. h .wrong z T (v .some) (v .few) (e ∙ v .long))
-
--- what is behind reply 6 refuses
-module _ {G : Grammar} {tables tokens tree : List ℕ} {room S : ℕ} (h : Tables G tables) (z : Sized S tree) (l : workAreas * length tree ≤ room) where
-  pub fits-token : {r : Tokens} (k : ℕ) → Told (G .t) tokens r → r ≡ Tokens.Bad k → Fits tables tokens room tree G (Refused (reasons.BadToken k)) tree
-  fits-token k u e = passed h (passed z (passed l (refused (at (is-bad k u e)))))
-
-  module _ {m : ℕ} {work : List ℕ} {r : Parsed} (s : Sentence (G .t) tokens (tokensFrom tokens m 0)) (u : Ran G S tokens m work r) where
-    pub fits-syntax : (i e : ℕ) → r ≡ Parsed.Syntax i e → Fits tables tokens room tree G (Refused (reasons.Syntax i e)) tree
-    fits-syntax i e q = passed h (passed z (passed l (passed s (refused (wrong-syntax (is-wrong i e u q))))))
-
-    pub fits-no-room : r ≡ Parsed.NoRoom → Fits tables tokens room tree G (Refused reasons.NoRoom) tree
-    fits-no-room q = passed h (passed z (passed l (passed s (refused (no-room (is-full u q))))))
-
--- what a parse stands on, from the tests before it
-pub grounded : (rows : List ℕ) (t n start count : ℕ) (tables b : List ℕ) (m : ℕ) {r : Tokens} → Prepared (grammarIn rows t n start count) → Tables (grammarIn rows t n start count) tables
-    → Told t b r → r ≡ Tokens.Good m → Ground rows t n start count tables b m
-grounded rows t n start count tables b m p h u e = let c = is-good m u e in record { prepared = p; tables = h; long = c .long; kinds = c .kinds }
-
-pub sentence-told : {t : ℕ} {b : List ℕ} {r : Tokens} (m : ℕ) → Told t b r → r ≡ Tokens.Good m → Sentence t b (tokensFrom b m 0)
-sentence-told m u e = is-good m u e .sentence
+  pub store-10 : r ≡ Parsed.NoRoom → Outcome (storeCall G S (tokensFrom b m 0)) tree (Refused reasons.NoRoom) tree
+  store-10 q = refused (no-room (is-full u q))
 
 -- the work area holds the nodes, the tokens that a parse looks at, and the stack
-pub room-for : (S : ℕ) (tree : List ℕ) (room : ℕ) → Sized S tree → workAreas * length tree ≤ room → parseSize S (S + 1) ≤ room
-room-for S tree room z l = omega (arith, z .long, l)
+pub room-for : (S long room : ℕ) → Sized S long → workAreas * long ≤ room → parseSize S (S + 1) ≤ room
+room-for S long room z l = omega (arith, z .long, l)
+
+-- ---- the checks before: each says what the call does where it refuses, and that the rest of the call is the call where it passes
+
+module _ {image : List ℕ} {G : Grammar} (f : Fit image G) (tables tokens : List ℕ) (room long : ℕ) (tree : List ℕ) where
+  by-3 : {r : Reply} {tree' : List ℕ} → Outcome (parseWith tables tokens room long G) tree r tree' → Outcome (parseCall image tables tokens room long) tree r tree'
+  by-3 o = given-passed (parseWith tables tokens room long) f o
+
+  pub parse-4 : (Tables G tables → ⊥) → Outcome (parseCall image tables tokens room long) tree (Refused reasons.WrongTables) tree
+  parse-4 n = by-3 (refused (exactly n))
+
+  module _ (t : Tables G tables) where
+    pub parse-5 : area long .Fail reasons.WrongTree → Outcome (parseCall image tables tokens room long) tree (Refused reasons.WrongTree) tree
+    parse-5 n = by-3 (passed t (refused n))
+
+    module _ (S : ℕ) (z : Sized S long) where
+      pub parse-6 : (need : ℕ) → need ≡ workAreas * long → room < need → Outcome (parseCall image tables tokens room long) tree (Refused (reasons.ShortWork need)) tree
+      parse-6 need e l = rw e (by-3 (passed t (passed z (refused (exactly (λ m. omega (arith, e, l, m)))))))
+
+      module _ (l : workAreas * long ≤ room) where
+        pub parse-7 : {r : Tokens} (k : ℕ) → Told (G .t) tokens r → r ≡ Tokens.Bad k → Outcome (parseCall image tables tokens room long) tree (Refused (reasons.BadToken k)) tree
+        parse-7 k u e = by-3 (passed t (passed z (passed l (refused (at (is-bad k u e))))))
+
+        pub parse-rest : (m : ℕ) {r : Tokens} → Told (G .t) tokens r → r ≡ Tokens.Good m → (reply : Reply) (tree' : List ℕ) → Outcome (storeCall G S (tokensFrom tokens m 0)) tree reply tree'
+            → Outcome (parseCall image tables tokens room long) tree reply tree'
+        parse-rest m u e reply tree' o = by-3 (passed t (passed z (passed l (passed (is-good m u e .sentence) o))))
+
+-- what a parse is given, from the checks before it
+pub grounded : (rows : List ℕ) (head : Head) (tables b : List ℕ) (m : ℕ) {r : Tokens} → Prepared (grammarIn rows head) → Tables (grammarIn rows head) tables → Told (head .t) b r → r ≡ Tokens.Good m
+    → Ground rows head tables b m
+grounded rows head tables b m p h u e = let c = is-good m u e in record { prepared = p; tables = h; long = c .long; kinds = c .kinds }

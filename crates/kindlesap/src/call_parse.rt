@@ -1,23 +1,22 @@
 // The call parse, but for zeroing the work area.
-use crate::Opening;
+use crate::checks::GrammarChecked;
 use grammar::Head;
 use plain::Parsed;
 use plain::Tokens;
 use replies::Counts;
 use replies::Reason;
 use replies::Reply;
-ghost use Prim.Native.Nat.{_*_, _<_, _≤_};
+ghost use Prim.Native.Nat.{_*_, _≤_};
 ghost use lib.ListN.{length};
-ghost use Rattle.grammar.specs.Prediction.{Prepared};
-ghost use Rattle.tables.specs.Tables.{Tables};
-ghost use Rattle.plain.specs.Tokens.{Sentence, tokensFrom};
-ghost use Rattle.plain.specs.Machine.{Ground, Done};
-ghost use Rattle.order.specs.Order.{Outcome};
-ghost use Rattle.order.specs.Checks.{headed, given, Sized};
-ghost use Rattle.kindlesap.specs.Opening.{ReadyWith};
-ghost use Rattle.kindlesap.specs.Parse.{workAreas, fits, Fits};
+ghost use Rattle.grammar.specs.Rows.{grammarIn};
+ghost use Rattle.trees.specs.Area.{workAreas};
+ghost use Rattle.plain.specs.Tokens.{tokensFrom};
+ghost use Rattle.plain.specs.Machine.{Ground};
+ghost use Rattle.calls.specs.Order.{Outcome};
+ghost use Rattle.calls.specs.Checks.{Sized};
+ghost use Rattle.calls.specs.Parse.{storeCall, parseCall};
 
-// Stores the tree whose o nodes a parse has listed in the work area.
+// Replies 9 and 10, or the tree of m good tokens.
 fn store(
     tokens: &[u8],
     m: usize,
@@ -25,13 +24,19 @@ fn store(
     rows: &[u8],
     head: Head,
     slots: usize,
-    o: usize,
-    work: &[u8],
     tree: &mut [u8],
+    work: &mut [u8],
 ) -> Reply
-    requires { ⌜ Ground (now rows) (head .t) (head .n) (head .start) (head .count) (now tables) (now tokens) m × Sized slots (now tree) × (workAreas * length (now tree) ≤ length (now work)) × Sentence (head .t) (now tokens) (tokensFrom (now tokens) m 0) × Done (headed (now rows) head) slots (now tokens) m o (now work) ⌝ }
-    ensures { λ r. ⌜ Fits (now (tables .entry)) (now (tokens .entry)) (length (now (work .entry))) (now (tree .entry)) (headed (now (rows .entry)) head) r (now (tree .exit)) ⌝ }
+    requires { ⌜ Ground (now rows) head (now tables) (now tokens) m × Sized slots (length (now tree)) × (workAreas * length (now tree) ≤ length (now work)) ⌝ }
+    ensures { λ r. ⌜ Outcome (storeCall (grammarIn (now (rows .entry)) head) slots (tokensFrom (now (tokens .entry)) m 0)) (now (tree .entry)) r (now (tree .exit)) ⌝ }
 {
+    let o = match parsing::parse_lent(tokens, m, tables, rows, head, slots, work) {
+        Parsed::Accepted(o) => o,
+        Parsed::Syntax(token, expected) => {
+            return Reply::Refused(Reason::Syntax(token as u64, expected));
+        }
+        Parsed::NoRoom => return Reply::Refused(Reason::NoRoom),
+    };
     trees::lay_out(work, o, rows, slots, tree);
     Reply::Accepted(Counts {
         total: o as u32,
@@ -41,108 +46,43 @@ fn store(
     })
 }
 
-// Replies 9 and 10, or the tree of m good tokens.
-fn parse_tokens(
-    tokens: &[u8],
-    m: usize,
-    tables: &[u8],
-    rows: &[u8],
-    head: Head,
-    slots: usize,
-    tree: &mut [u8],
-    work: &mut [u8],
-) -> Reply
-    requires { ⌜ Ground (now rows) (head .t) (head .n) (head .start) (head .count) (now tables) (now tokens) m × Sized slots (now tree) × (workAreas * length (now tree) ≤ length (now work)) × Sentence (head .t) (now tokens) (tokensFrom (now tokens) m 0) ⌝ }
-    ensures { λ r. ⌜ Fits (now (tables .entry)) (now (tokens .entry)) (length (now (work .entry))) (now (tree .entry)) (headed (now (rows .entry)) head) r (now (tree .exit)) ⌝ }
-{
-    match parsing::parse_lent(
-        tokens,
-        m,
-        tables,
-        rows,
-        head.t,
-        head.n,
-        head.start,
-        head.count,
-        slots,
-        work,
-    ) {
-        Parsed::Accepted(o) => store(tokens, m, tables, rows, head, slots, o, work, tree),
-        Parsed::Syntax(place, expected) => Reply::Refused(Reason::Syntax(place as u64, expected)),
-        Parsed::NoRoom => Reply::Refused(Reason::NoRoom),
-    }
-}
-
-// Replies 5, 6, 7, 9 and 10, or the tree of the tokens.
-fn parse_area(
-    tokens: &[u8],
-    tables: &[u8],
-    rows: &[u8],
-    head: Head,
-    tree: &mut [u8],
-    work: &mut [u8],
-) -> Reply
-    requires { ⌜ Prepared (headed (now rows) head) × Tables (headed (now rows) head) (now tables) ⌝ }
-    ensures { λ r. ⌜ Fits (now (tables .entry)) (now (tokens .entry)) (length (now (work .entry))) (now (tree .entry)) (headed (now (rows .entry)) head) r (now (tree .exit)) ⌝ }
-{
-    let slots = crate::slots_of(tree.len());
-    if slots == 0 {
-        return Reply::Refused(Reason::WrongTree);
-    }
-    let need = crate::WORK_AREAS * tree.len();
-    if work.len() < need {
-        return Reply::Refused(Reason::ShortWork(need as u64));
-    }
-    match plain::read_tokens(tokens, head.t) {
-        Tokens::Good(m) => parse_tokens(tokens, m, tables, rows, head, slots, tree, work),
-        Tokens::Bad(place) => Reply::Refused(Reason::BadToken(place as u64)),
-    }
-}
-
-// Reply 4, and what comes behind it.
-fn parse_fit(
-    tokens: &[u8],
-    tables: &[u8],
-    rows: &[u8; grammar::ROWS_SIZE],
-    head: Head,
-    sets: &[u32],
-    cells: &[u8],
-    tree: &mut [u8],
-    work: &mut [u8],
-) -> Reply
-    requires { ⌜ ReadyWith (now rows) head (now sets) (now cells) ⌝ }
-    ensures { λ r. ⌜ Fits (now (tables .entry)) (now (tokens .entry)) (length (now (work .entry))) (now (tree .entry)) (headed (now (rows .entry)) head) r (now (tree .exit)) ⌝ }
-{
-    if tables::is_prepared(
-        rows,
-        head.t,
-        head.n,
-        head.start,
-        head.count,
-        sets,
-        cells,
-        tables,
-    ) {
-        return parse_area(tokens, tables, rows, head, tree, work);
-    }
-    Reply::Refused(Reason::WrongTables)
-}
-
-// Replies 1 to 7, 9 and 10, or the tree of the tokens.
-pub fn parse_image(
+// The checks of parse in their order, then the tree of the tokens.
+pub fn parse_checked(
     image: &[u8],
     tables: &[u8],
     tokens: &[u8],
     tree: &mut [u8],
     work: &mut [u8],
 ) -> Reply
-    ensures { λ r. ⌜ Outcome (given (now (image .entry)) (fits (now (tables .entry)) (now (tokens .entry)) (length (now (work .entry))) (now (tree .entry)))) (now (tree .entry)) r (now (tree .exit)) ⌝ }
+    ensures { λ r. ⌜ Outcome (parseCall (now (image .entry)) (now (tables .entry)) (now (tokens .entry)) (length (now (work .entry))) (length (now (tree .entry)))) (now (tree .entry)) r (now (tree .exit)) ⌝ }
 {
     let mut rows = [0u8; grammar::ROWS_SIZE];
     let mut sets = [0u32; sets::SETS_SIZE];
     let mut cells = [0u8; tables::PREDICTIONS_SIZE];
-    match crate::open_grammar(image, &mut rows, &mut sets, &mut cells) {
-        Opening::Fit(head) => parse_fit(tokens, tables, &rows, head, &sets, &cells, tree, work),
-        Opening::Unfit(reason) => Reply::Refused(reason),
+    // 1, 2, 3
+    let head = match crate::checks::check_grammar(image, &mut rows, &mut sets, &mut cells) {
+        GrammarChecked::Fit(head) => head,
+        GrammarChecked::Unfit(reason) => return Reply::Refused(reason),
+    };
+    // 4
+    if !tables::is_prepared(&rows, head, &sets, &cells, tables) {
+        return Reply::Refused(Reason::WrongTables);
     }
+    // 5
+    let slots = crate::checks::slots_of(tree.len());
+    if slots == 0 {
+        return Reply::Refused(Reason::WrongTree);
+    }
+    // 6
+    let need = trees::WORK_AREAS * tree.len();
+    if work.len() < need {
+        return Reply::Refused(Reason::ShortWork(need as u64));
+    }
+    // 7
+    let m = match plain::read_tokens(tokens, head.t) {
+        Tokens::Good(m) => m,
+        Tokens::Bad(record) => return Reply::Refused(Reason::BadToken(record as u64)),
+    };
+    // 9, 10
+    store(tokens, m, tables, &rows, head, slots, tree, work)
 }

@@ -21,6 +21,9 @@ pub const HEADER_SIZE: usize = 16;
 
 pub const MAX_SLOTS: usize = 1000;
 
+// How many areas a work area has room for.
+pub const WORK_AREAS: usize = 3;
+
 // The marks of a header and of a used slot, two bytes each.
 pub const TREE_MARK: u8 = 0x54;
 
