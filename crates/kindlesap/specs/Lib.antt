@@ -1,14 +1,9 @@
--- Meaning: what the calls do.
-pub mod Prepare
-pub mod Parse
-pub mod ReadBack
-pub mod Edit
--- The laws that the proofs of the calls cite.
-pub mod Opening
-pub mod Storing
-pub mod Returning
--- Across calls, and demand 2 at the calls.
-pub mod Deciding
-pub mod Across
-pub mod Edited
+-- The laws that the proofs of the calls cite: what each check says.
+pub mod GrammarChecks
+pub mod AreaChecks
+pub mod PrepareChecks
+pub mod ParseChecks
+pub mod EditChecks
+pub mod ReadBackChecks
+-- Laying out and walking undo each other.
 pub mod RoundTrip

@@ -5,6 +5,7 @@ use mathlib.Core.List.{List, [], _∷_}
 use Rattle.grammar.specs.Grammar.{Grammar}
 use Rattle.grammar.specs.Forest.{Forest, Derives}
 use Rattle.grammar.specs.Rows.{grammarIn}
+use Rattle.grammar.specs.declared.Head.{Head}
 use Rattle.trees.specs.Area.{maxSlots, Area, Valid}
 use Rattle.trees.specs.AreaOne.{area-one}
 use Rattle.trees.specs.Nodes.{preorder, build, build-preorder, derives-formed}
@@ -27,9 +28,9 @@ module _ {G : Grammar} {S : ℕ} {b w : List ℕ} {r : Walked} (some : 1 ≤ S) 
   laid-walked n e = let t = treed n h e in sym (t .nodes) ∙ ap preorder (valid-one (t .valid) laid)
 
 -- what a walk has listed, laid out again, is the area that was walked
-pub walked-laid : (rows : List ℕ) (t n start count S : ℕ) (b b' w : List ℕ) (o : ℕ) → Treed (grammarIn rows t n start count) S b w o → Area S (build (arityIn rows) (nodesFrom w o 0)) b' → b' ≡ b
-walked-laid rows t n start count S b b' w o h a =
+pub walked-laid : (rows : List ℕ) (head : Head) (S : ℕ) (b b' w : List ℕ) (o : ℕ) → Treed (grammarIn rows head) S b w o → Area S (build (arityIn rows) (nodesFrom w o 0)) b' → b' ≡ b
+walked-laid rows head S b b' w o h a =
     let f = h .valid .tree in
-    let e : build (arityIn rows) (preorder f) ≡ f = build-preorder (derives-formed (arityIn rows) (arity-rows rows t n start count) (h .valid .derives)) in
+    let e : build (arityIn rows) (preorder f) ≡ f = build-preorder (derives-formed (arityIn rows) (arity-rows rows head) (h .valid .derives)) in
     let q : build (arityIn rows) (nodesFrom w o 0) ≡ f = rw (h .nodes) at e in
     area-one S f b' b (rw q at a) (h .valid .area)
