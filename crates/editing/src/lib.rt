@@ -61,7 +61,10 @@ pub fn old_tree(tree: &[u8], slots: usize, rows: &[u8], head: Head, work: &mut [
 pub fn in_range(place: u32, removed: u32, tokens: usize) -> bool
     ensures { λ r. ⌜ Tells (place + removed ≤ tokens) r ⌝ }
 {
-    place as usize + removed as usize <= tokens
+    if tokens < place as usize + removed as usize {
+        return false;
+    }
+    true
 }
 
 // Reply 0, where the old tree has o nodes, and the new one `total`, of which `kept` kept their slots.

@@ -101,16 +101,16 @@ module _ (image rows : List ℕ) (r : GrammarRead) (x : Reads image r rows) wher
 
 -- ---- from the check's answer
 
-module _ {image rows s cells : List ℕ} {r : GrammarChecked} where
-  pub checked-ready : (h : Head) → Checks image rows s cells r → r ≡ GrammarChecked.Fit h → Ready rows h s cells
+module _ {image rows s cells : List ℕ} where
+  pub checked-ready : {r : GrammarChecked} (h : Head) → Checks image rows s cells r → r ≡ GrammarChecked.Fit h → Ready rows h s cells
   checked-ready h (fits {h = k} i y) e = let q : k ≡ h = cc in rw q at y
   checked-ready h (unfit u) e = never (cc)
 
-  pub checked-fit : (h : Head) → Checks image rows s cells r → r ≡ GrammarChecked.Fit h → Fit image (grammarIn rows h)
+  pub checked-fit : {r : GrammarChecked} (h : Head) → Checks image rows s cells r → r ≡ GrammarChecked.Fit h → Fit image (grammarIn rows h)
   checked-fit h (fits {h = k} i y) e = let q : k ≡ h = cc in rw q at (record { reads = i; prepared = y .prepared })
   checked-fit h (unfit u) e = never (cc)
 
   -- a call refuses with the check's reason
-  pub checked-refused : {B : Type 0} (next : Grammar → Call B) (before : B) (p : Reason) → Checks image rows s cells r → r ≡ GrammarChecked.Unfit p → Outcome (given image next) before (Refused p) before
+  pub checked-refused : {B : Type 0} {r : GrammarChecked} (next : Grammar → Call B) (before : B) (p : Reason) → Checks image rows s cells r → r ≡ GrammarChecked.Unfit p → Outcome (given image next) before (Refused p) before
   checked-refused next before p (fits i y) e = never (cc)
   checked-refused next before p (unfit {p = q} u) e = let z : q ≡ p = cc in given-refused next (rw z at u)

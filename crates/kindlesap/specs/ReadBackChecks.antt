@@ -32,7 +32,7 @@ tokens-fit rows head S tree nodes o m h e =
     let y = valid-header (h .valid) .tokens in
     omega (arith, e, y, l, h .count, few-tokens (h .valid .tree))
 
-module _ {image rows : List ℕ} {head : Head} (f : Fit image (grammarIn rows head)) (tree output : List ℕ) where
+module _ (rows : List ℕ) (head : Head) {image : List ℕ} (f : Fit image (grammarIn rows head)) (tree output : List ℕ) where
   by-3 : {r : Reply} {output' : List ℕ} → Outcome (readBackWith tree output (grammarIn rows head)) output r output' → Outcome (readBackCall image tree output) output r output'
   by-3 o = given-passed (readBackWith tree output) f o
 

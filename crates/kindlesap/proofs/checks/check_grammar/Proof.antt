@@ -1,7 +1,7 @@
-use Rattle.kindlesap.specs.Opening.{got-formed, opens-good, opens-bad}
+use Rattle.kindlesap.specs.GrammarChecks.{got-formed, checks-good, checks-bad}
 use borrow.Author.Needs.{needs}
-use Rattle.kindlesap.proofs.open_grammar.Statement.{statement}
-use Rattle.kindlesap.proofs.open_grammar.Tie as tie
+use Rattle.kindlesap.proofs.checks.check_grammar.Statement.{statement}
+use Rattle.kindlesap.proofs.checks.check_grammar.Tie as tie
 
 read-grammar-requires : tie.Need-read-grammar-requires
 read-grammar-requires c κs = search needs
@@ -22,13 +22,13 @@ same-length-2 : tie.Need-same-length-2
 same-length-2 c = search needs
 
 returns : tie.Need-returns
-returns c = search (opens-good, needs)
+returns c = search (checks-good, needs)
 
 returns-2 : tie.Need-returns-2
-returns-2 c = search (opens-bad, needs)
+returns-2 c = search (checks-bad, needs)
 
-pub open-grammar-spec : {M : Type 1} → statement M
-open-grammar-spec =
+pub check-grammar-spec : {M : Type 1} → statement M
+check-grammar-spec =
     tie.close
     (tie.spec
     read-grammar-requires

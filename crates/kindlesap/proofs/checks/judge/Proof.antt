@@ -1,10 +1,10 @@
 use Rattle.base.specs.Blocks.{length-zeros}
 use mathlib.Core.Path.{ap, _∙_}
 use lib.ListN.{length}
-use Rattle.kindlesap.specs.Opening.{bounds, have-rows, judges-useless, judges-conflict, judges-fit}
+use Rattle.kindlesap.specs.GrammarChecks.{bounds, have-rows, judges-useless, judges-conflict, judges-fit}
 use borrow.Author.Needs.{needs}
-use Rattle.kindlesap.proofs.judge.Statement.{statement}
-use Rattle.kindlesap.proofs.judge.Tie as tie
+use Rattle.kindlesap.proofs.checks.judge.Statement.{statement}
+use Rattle.kindlesap.proofs.checks.judge.Tie as tie
 
 analyse-requires : tie.Need-analyse-requires
 analyse-requires c κs = let h = bounds _ _ (c .before .before .before .before .pre .0) in search needs
