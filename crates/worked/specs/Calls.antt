@@ -9,20 +9,20 @@ use borrow.Author.Tests.{leb-true}
 use native.Mathlib.Omega.{arith}
 use Rattle.base.specs.Blocks.{zeros, length-zeros}
 use Rattle.grammar.specs.Each.{Each}
-use Rattle.grammar.specs.Grammar.{TerminalOf}
-use Rattle.grammar.specs.Forest.{Token, kinds, Forest, size}
-use Rattle.grammar.specs.Reference.{reference, referenceImage, reference-image}
-use Rattle.trees.specs.Area.{maxSlots, areaSize, Area}
+use Rattle.grammar.specs.Grammar.{Grammar, TerminalOf}
+use Rattle.grammar.specs.Forest.{Token, kinds, Forest}
+use Rattle.grammar.specs.Reference.{reference, referenceImage}
+use Rattle.trees.specs.Area.{maxSlots, areaSize, workAreas, Area}
 use Rattle.plain.specs.Plain.{Verdict, accepted, syntax, noRoom, Parses}
 use Rattle.plain.specs.Tokens.{tokenBytes, Sentence}
 use Rattle.replies.specs.declared.Reply.{Reply}
 use Rattle.replies.specs.declared.Reason.the-variants.{Syntax, NoRoom}
 use Rattle.replies.specs.declared.Reply.the-variants.{Accepted, Refused}
-use Rattle.order.specs.Order.{refused, passed, accepted as done}
-use Rattle.order.specs.Checks.{wrong-syntax, no-room}
-use Rattle.order.specs.Single.{given-passed}
-use Rattle.kindlesap.specs.Parse.{workAreas, Sized, Stored, parseCounts, Storage, fits, Fits, ParseOutcome}
-use Rattle.worked.specs.Ready.{reference-prepared}
+use Rattle.calls.specs.Order.{Call, Outcome, Ends, refused, passed, accepted as done}
+use Rattle.calls.specs.Checks.{Sized, wrong-syntax, no-room}
+use Rattle.calls.specs.Parse.{Stored, parseCounts, Storage, parseWith, parseCall}
+use Rattle.calls.specs.CheckLaws.{given-passed}
+use Rattle.worked.specs.Ready.{reference-fit}
 use Rattle.worked.specs.Entries.{referenceTables, reference-tables}
 use Rattle.worked.specs.Match.{both-true}
 use Rattle.worked.specs.Ordered.{stores, stored-laid}
@@ -37,13 +37,14 @@ pub record Given (S : ℕ) (ks : List ℕ) : Type 0 where
   pub tokens : List ℕ
   pub spelt : Sentence (reference .t) tokens sentence
   pub tree : List ℕ
-  pub sized : Sized S tree
+  pub sized : Sized S (length tree)
   pub work : List ℕ
   pub long : workAreas * length tree ≤ length work
 
 -- the call gives this reply and this tree area
 abbrev pub Answers : {S : ℕ} {ks : List ℕ} → Given S ks → Reply → List ℕ → Type 0
-Answers x r tree' = ParseOutcome referenceImage referenceTables (x .tokens) (x .tree) (x .work) r tree' (zeros (length (x .work)))
+Answers x r tree' =
+    Ends (parseCall referenceImage referenceTables (x .tokens) (length (x .work)) (length (x .tree))) (x .tree) (x .work) r tree' (zeros (length (x .work)))
 
 -- it is accepted, with n as total and made, and the sentence's tree is stored
 pub record Accepts {S : ℕ} {ks : List ℕ} (n : ℕ) (x : Given S ks) : Type 0 where
@@ -51,13 +52,13 @@ pub record Accepts {S : ℕ} {ks : List ℕ} (n : ℕ) (x : Given S ks) : Type 0
   pub stored : Stored reference S (x .sentence) tree
   pub bytes : List ℕ
   pub area : Area S tree bytes
-  pub outcome : Answers x (Accepted (record { total = n; kept = 0; made = n; «given_up» = 0 })) bytes
+  pub outcome : Answers x (Accepted (parseCounts n)) bytes
 
 -- as the plain parse ends; a refusal leaves the area as it was
-abbrev pub Ends : {S : ℕ} {ks : List ℕ} → Given S ks → Verdict → Type 0
-Ends x (accepted n) = Accepts n x
-Ends x (syntax i e) = Answers x (Refused (Syntax i e)) (x .tree)
-Ends x noRoom = Answers x (Refused NoRoom) (x .tree)
+abbrev pub EndsAs : {S : ℕ} {ks : List ℕ} → Given S ks → Verdict → Type 0
+EndsAs x (accepted n) = Accepts n x
+EndsAs x (syntax i e) = Answers x (Refused (Syntax i e)) (x .tree)
+EndsAs x noRoom = Answers x (Refused NoRoom) (x .tree)
 
 -- ---- of all kinds 1..5 there is such a call
 
@@ -90,12 +91,14 @@ given S ks l m e =
 -- ---- it is right
 
 module _ {S : ℕ} {ks : List ℕ} (x : Given S ks) where
-  answered : {r : Reply} {tree' : List ℕ} → Fits referenceTables (x .tokens) (length (x .work)) (x .tree) reference r tree' → Answers x r tree'
-  answered {r} {tree'} h =
-      record { opened = given-passed referenceImage (fits referenceTables (x .tokens) (length (x .work)) (x .tree)) (x .tree) r tree' reference-image reference-prepared h; cleared = refl }
+  abbrev next : Grammar → Call (List ℕ)
+  next = parseWith referenceTables (x .tokens) (length (x .work)) (length (x .tree))
 
-  pub ends : (v : Verdict) → Parses reference S (x .sentence) v → Ends x v
-  ends (accepted n) p =
+  answered : {r : Reply} {tree' : List ℕ} → Outcome (next reference) (x .tree) r tree' → Answers x r tree'
+  answered h = record { outcome = given-passed next reference-fit h; cleared = refl }
+
+  pub ends-as : (v : Verdict) → Parses reference S (x .sentence) v → EndsAs x v
+  ends-as (accepted n) p =
       let q = stores (x .sized .some) p in
       let b = stored-laid (q .1) (x .spelt .tags) in
       let d : Storage reference S (x .sentence) (parseCounts n) (b .0) = record { tree = q .0; stored = q .1; counts = ap parseCounts (sym (q .2)); area = b .1 } in
@@ -106,5 +109,5 @@ module _ {S : ℕ} {ks : List ℕ} (x : Given S ks) where
         area = b .1;
         outcome = answered (passed reference-tables (passed (x .sized) (passed (x .long) (passed (x .spelt) (passed p (done d))))));
       }
-  ends (syntax i e) p = answered (passed reference-tables (passed (x .sized) (passed (x .long) (passed (x .spelt) (refused (wrong-syntax p))))))
-  ends noRoom p = answered (passed reference-tables (passed (x .sized) (passed (x .long) (passed (x .spelt) (refused (no-room p))))))
+  ends-as (syntax i e) p = answered (passed reference-tables (passed (x .sized) (passed (x .long) (passed (x .spelt) (refused (wrong-syntax p))))))
+  ends-as noRoom p = answered (passed reference-tables (passed (x .sized) (passed (x .long) (passed (x .spelt) (refused (no-room p))))))

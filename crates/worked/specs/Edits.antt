@@ -10,29 +10,28 @@ use borrow.Author.Tests.{leb-true}
 use native.Mathlib.Omega.{arith}
 use Rattle.base.specs.Choose.{never}
 use Rattle.base.specs.Blocks.{zeros, length-zeros}
-use Rattle.grammar.specs.Each.{Each, each-join}
-use Rattle.grammar.specs.Grammar.{TerminalOf}
+use Rattle.grammar.specs.Each.{Each, each-join, each-take, each-drop}
+use Rattle.grammar.specs.Grammar.{Grammar, TerminalOf}
 use Rattle.grammar.specs.Forest.{Token, kinds, Forest, size, yield}
 use Rattle.grammar.specs.Trees.{kinds-append}
-use Rattle.grammar.specs.Reference.{reference, referenceImage, reference-image}
-use Rattle.trees.specs.Area.{maxSlots, tagSpace, slots, Area, Valid}
+use Rattle.grammar.specs.Reference.{reference, referenceImage}
+use Rattle.trees.specs.Area.{maxSlots, workAreas, tagSpace, slots, Area, Valid}
 use Rattle.trees.specs.Nodes.{Node, leafNode, innerNode, preorder, build}
 use Rattle.plain.specs.Plain.{syntax, Parses}
-use Rattle.plain.specs.Tokens.{Tagged, tokenBytes, Sentence}
-use Rattle.edits.specs.Keeping.{Edit, edited, Holding, keptOf, madeOf, GivenUp, Altered}
-use Rattle.edits.specs.One.{keeps-one}
+use Rattle.plain.specs.Tokens.{Tagged, tokenBytes, Sentence, good-linked}
+use Rattle.edits.specs.Keeping.{Edit, editOf, edited, Holding, keptOf, madeOf, GivenUp, Altered}
 use Rattle.edits.specs.Giving.{holding-held, given-spread}
-use Rattle.sentences.specs.Forming.{editOf}
-use Rattle.sentences.specs.Grounding.{each-take, each-drop, good-linked}
+use Rattle.replies.specs.declared.Counts.{Counts}
 use Rattle.replies.specs.declared.Reply.{Reply}
 use Rattle.replies.specs.declared.Reason.the-variants.{BeyondTokens, Syntax}
 use Rattle.replies.specs.declared.Reply.the-variants.{Accepted, Refused}
-use Rattle.order.specs.Order.{refused, passed, accepted, exactly}
-use Rattle.order.specs.Checks.{wrong-syntax}
-use Rattle.order.specs.Single.{given-passed, valid-sized, valid-holds}
-use Rattle.kindlesap.specs.Parse.{workAreas, upFrom, Stored, stored-one}
-use Rattle.kindlesap.specs.Edit as calls
-use Rattle.worked.specs.Ready.{reference-prepared}
+use Rattle.calls.specs.Order.{Call, Outcome, Ends, refused, passed, accepted, exactly}
+use Rattle.calls.specs.Checks.{wrong-syntax}
+use Rattle.calls.specs.Parse.{upFrom, Stored}
+use Rattle.calls.specs.Edit.{editWith, editCall}
+use Rattle.calls.specs.CheckLaws.{valid-sized, valid-holds, given-passed}
+use Rattle.calls.specs.CallsUnique.{stored-one, altered-parses}
+use Rattle.worked.specs.Ready.{reference-prepared, reference-fit}
 use Rattle.worked.specs.Entries.{referenceTables, reference-tables}
 use Rattle.worked.specs.Run.{body, run, run-right}
 use Rattle.worked.specs.Match.{held, held-right}
@@ -70,6 +69,10 @@ pub record Row : Type 0 where
   pub up : ℕ
   pub nodes : List Cell
 
+-- its counts
+abbrev pub rowCounts : Row → Counts
+rowCounts r = record { total = r .total; kept = r .kept; made = r .made; «given_up» = r .up }
+
 -- what an edit is given: the tree that parse leaves of a sentence of kinds ks in S slots, tokens of kinds `new` to insert, and work enough; tags are free
 pub record Setting (S : ℕ) (ks new : List ℕ) : Type 0 where
   pub some : 1 ≤ S
@@ -89,7 +92,8 @@ pub record Setting (S : ℕ) (ks new : List ℕ) : Type 0 where
 
 -- the call gives this reply and this tree area
 abbrev pub Replies : {S : ℕ} {ks new : List ℕ} → Setting S ks new → (place removed : ℕ) → Reply → List ℕ → Type 0
-Replies x place removed r tree' = calls.EditOutcome referenceImage referenceTables (x .tree) place removed (x .tokens) (x .work) r tree' (zeros (length (x .work)))
+Replies x place removed r tree' =
+    Ends (editCall referenceImage referenceTables (x .tokens) place removed (length (x .work)) (x .tree)) (x .tree) (x .work) r tree' (zeros (length (x .work)))
 
 -- it is accepted with the row's counts, and the tree that it leaves has the row's nodes
 pub record Remade (r : Row) (x : Setting (r .S) (r .sentence) (r .inserted)) : Type 0 where
@@ -98,7 +102,7 @@ pub record Remade (r : Row) (x : Setting (r .S) (r .sentence) (r .inserted)) : T
   pub nodes : cellsOf (altered .held) (preorder tree) ≡ r .nodes
   pub bytes : List ℕ
   pub area : Area (r .S) tree bytes
-  pub outcome : Replies x (r .place) (r .removed) (Accepted (calls.editCounts (r .total) (r .kept) (r .made) (r .up))) bytes
+  pub outcome : Replies x (r .place) (r .removed) (Accepted (rowCounts r)) bytes
 
 -- ---- of each sentence that parse stores, and each tokens to insert, there is a setting
 
@@ -241,13 +245,12 @@ Found r olds = (w u : List Token) → go (spelled (r .sentence) w) (editOf (r .p
 abbrev pub valid : {S : ℕ} {ks new : List ℕ} (x : Setting S ks new) → Valid reference S (x .tree)
 valid x = record { some = x .some; few = x .few; tree = x .old; derives = x .stored .derives; area = x .area }
 
-replied : {S : ℕ} {ks new : List ℕ} (x : Setting S ks new) (place removed : ℕ) {r : Reply} {tree' : List ℕ}
-    → calls.Edits referenceTables (x .tokens) place removed (length (x .work)) (x .tree) reference r tree' → Replies x place removed r tree'
-replied x place removed {r} {tree'} h =
-    record {
-      opened = given-passed referenceImage (calls.edits referenceTables (x .tokens) place removed (length (x .work)) (x .tree)) (x .tree) r tree' reference-image reference-prepared h;
-      cleared = refl;
-    }
+module _ {S : ℕ} {ks new : List ℕ} (x : Setting S ks new) (place removed : ℕ) where
+  abbrev next : Grammar → Call (List ℕ)
+  next = editWith referenceTables (x .tokens) place removed (length (x .work)) (x .tree)
+
+  replied : {r : Reply} {tree' : List ℕ} → Outcome (next reference) (x .tree) r tree' → Replies x place removed r tree'
+  replied h = record { outcome = given-passed next reference-fit h; cleared = refl }
 
 -- the old tree is one that parse leaves
 stored-found : (r : Row) (olds : List Cell) → Found r olds → (w u : List Token) → Stored reference (r .S) (spelled (r .sentence) w) (planted (spelled (r .sentence) w) olds)
@@ -282,9 +285,9 @@ altered-laid {S} {place} {removed} x {N} a =
     laid S N (q .0) (q .1) (subst (λ (v : List Token). Each Tagged v) (sym (a .yields)) t)
 
 accepts : {S place removed k m u : ℕ} {ks new : List ℕ} (x : Setting S ks new) (N : Forest) → place + removed ≤ length (yield (x .old)) → Altered reference S (editOf place removed (x .inserted)) (x .old) N k m u
-    → (b : List ℕ) → Area S N b → Replies x place removed (Accepted (calls.editCounts (size N) k m u)) b
+    → (b : List ℕ) → Area S N b → Replies x place removed (Accepted (record { total = size N; kept = k; made = m; «given_up» = u })) b
 accepts {place = place} {removed} x N i a b c =
-    let h = calls.altered-parses (x .some) a in
+    let h = altered-parses (x .some) a in
     replied x place removed (passed reference-tables (passed (valid-sized (valid x)) (passed (valid-holds (valid x)) (passed (x .long) (passed (x .spelt) (passed i (passed h (accepted (record { new = N; altered = a; total = refl; area = c })))))))))
 
 pub edit-says : (r : Row) (olds : List Cell) → Found r olds → (x : Setting (r .S) (r .sentence) (r .inserted)) → Remade r x
@@ -302,7 +305,7 @@ edit-says r olds found x =
     let q : O ≡ x .old = stored-one reference-prepared t (subst (λ (w : List Token). Stored reference S w (x .old)) (sym (spelled-is (r .sentence) (x .sentence) (x .sentence-kinds))) (x .stored)) in
     let p : U ≡ x .inserted = spelled-is (r .inserted) (x .inserted) (x .inserted-kinds) in
     let hs : List ℕ = held e O N in
-    let z : Holding e O N hs = held-right (λ a' a b. keeps-one reference-prepared (t .derives)) in
+    let z : Holding e O N hs = held-right reference-prepared (t .derives) in
     let n : size N ≡ r .total = ap (λ (f : Facts). f .total) h in
     let l : r .place + r .removed ≤ length (yield O) = leb-true (r .place + r .removed) (length (yield O)) (ap (λ (f : Facts). f .in-range) h) in
     let i : r .place + r .removed ≤ length (yield (x .old)) = subst (λ (o : Forest). r .place + r .removed ≤ length (yield o)) q l in
@@ -327,7 +330,7 @@ edit-says r olds found x =
       nodes = ap (λ (f : Facts). f .cells) h;
       bytes = c .0;
       area = c .1;
-      outcome = subst (λ (t : ℕ). Replies x (r .place) (r .removed) (Accepted (calls.editCounts t (r .kept) (r .made) (r .up))) (c .0)) n (accepts x N i a (c .0) (c .1));
+      outcome = subst (λ (t : ℕ). Replies x (r .place) (r .removed) (Accepted (record { total = t; kept = r .kept; made = r .made; «given_up» = r .up })) (c .0)) n (accepts x N i a (c .0) (c .1));
     }
 
 -- ---- edits that are refused

@@ -18,7 +18,7 @@ use Rattle.tables.specs.One.{prediction-one, break-one}
 use Rattle.tables.specs.Cells.{stemBits, pointOf}
 use Rattle.tables.specs.Points.{point}
 use Rattle.tables.specs.Outcome.{cell-prediction}
-use Rattle.worked.specs.Words.{rows, words, is-reference, known}
+use Rattle.worked.specs.Words.{head, rows, words, is-reference, known}
 use Rattle.worked.specs.Ready.{prepared, reference-prepared, cells, listed, steps, step-is}
 
 -- the prediction of row R at lookahead a
@@ -29,7 +29,7 @@ pub cell-is : (R a : ℕ) → R < tableRows → a < columns → Prediction refer
 unfolding cell grammarIn
 cell-is R a l k =
     subst (λ (K : Grammar). Prediction K (rowSymbol K R) a (getD cells (R * columns + a) 0)) is-reference
-    (cell-prediction rows 5 5 6 8 words cells (record { known = known; prepared = prepared; listed = listed }) (listed .cell R a l k))
+    (cell-prediction rows head words cells (record { known = known; prepared = prepared; listed = listed }) (listed .cell R a l k))
 
 -- break point [M, N, a]
 unfoldable pub entry : ℕ → ℕ → ℕ → ℕ
@@ -39,7 +39,7 @@ pub entry-is : (M N a : ℕ) → M < symbolSpace → N < symbolSpace → a < col
 unfolding entry
 entry-is M N a l m k =
     subst (λ (K : Grammar). Break K M N a (pointOf words steps 5 M N a (stemBits steps 5 a symbolSpace N 0))) is-reference
-    (point rows 5 5 6 8 words known prepared cells listed steps (λ R b x y. step-is (R * columns + b) (omega arith)) M N a (stemBits steps 5 a symbolSpace N 0) l m k refl)
+    (point rows head words known prepared cells listed steps (λ R b x y. step-is (R * columns + b) (omega arith)) M N a (stemBits steps 5 a symbolSpace N 0) l m k refl)
 
 -- ---- the tables
 

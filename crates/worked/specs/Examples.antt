@@ -19,14 +19,13 @@ use Rattle.predictions.specs.Hits.{hasb}
 use Rattle.tables.specs.Tables.{rowSymbol, Prediction, Tables}
 use Rattle.tables.specs.One.{tables-one}
 use Rattle.tables.specs.Cells.{next, stemBits, sharedFrom, behindOf, pointOf}
-use Rattle.tables.specs.Points.{point}
 use Rattle.trees.specs.Area.{maxSlots}
 use Rattle.plain.specs.Plain.{Verdict, accepted, syntax, noRoom, Parses}
 use Rattle.plain.specs.Machine.{marked}
 use Rattle.replies.specs.declared.Reason.{Reason}
 use Rattle.replies.specs.declared.Reason.the-variants.{BeyondTokens, Syntax}
 use Rattle.replies.specs.declared.Reply.the-variants.{Refused}
-use Rattle.kindlesap.specs.Parse.{Stored}
+use Rattle.calls.specs.Parse.{Stored}
 use Rattle.worked.specs.Words.{words}
 use Rattle.worked.specs.Ready.{below, reference-prepared, cells, steps}
 use Rattle.worked.specs.Entries.{cell, cell-is, entry, entry-is, referenceTables, reference-tables, predictionByte, breakByte, prediction-byte, break-byte, other-byte}
@@ -34,7 +33,7 @@ use Rattle.worked.specs.Sums.{sum, sum-same, sum-none, sum-first, sum-ro
 use Rattle.worked.specs.Run.{body, lit, leaf, grown, inner, turn, run, run-right}
 use Rattle.worked.specs.Match.{orElse, seek, starts, stands, was, full, void, source, matches, slotOf, slotsOf, held}
 use Rattle.worked.specs.Alter.{grows, among, filled, gives, givenUp}
-use Rattle.worked.specs.Calls.{Given, Ends, spoken, spoken-right, given, ends}
+use Rattle.worked.specs.Calls.{Given, EndsAs, spoken, spoken-right, given, ends-as}
 use Rattle.worked.specs.Edits.{Cell, kept, made, Row, Setting, Replies, Remade, spelled, noded, planted, facts, Found, found-setting, edit-says, syntax-says, beyond-says}
 
 -- ---- what an example says
@@ -85,7 +84,7 @@ abbrev pub Says : Example → Type 0
 Says (counts p b e) = Counted p b e
 Says (breakPoint M N a v) = Break reference M N a v × ((w : List ℕ) → Tables reference w → getD w (breakByte (M - 6) (N - 6) a) 0 ≡ v)
 Says (tree S w f) = Stored reference S w f
-Says (parse S ks v) = Given S ks × ((w : List Token) → kinds w ≡ ks → Parses reference S w v) × ((x : Given S ks) → Ends x v)
+Says (parse S ks v) = Given S ks × ((w : List Token) → kinds w ≡ ks → Parses reference S w v) × ((x : Given S ks) → EndsAs x v)
 Says (edit r) = Setting (r .S) (r .sentence) (r .inserted) × ((x : Setting (r .S) (r .sentence) (r .inserted)) → Remade r x)
 Says (refusal S ks place removed new reason) = Setting S ks new × ((x : Setting S ks new) → Replies x place removed (Refused reason) (x .tree))
 
@@ -279,7 +278,7 @@ unfolding reference
 run-says fuel S ks v e w q = run-right fuel S (6 ∷ []) w 1 0 v (rw q e)
 
 parse-says : (fuel S : ℕ) (ks : List ℕ) (v : Verdict) → leb 1 S ≡ true → leb S maxSlots ≡ true → spoken ks ≡ true → run fuel S (6 ∷ []) ks 1 0 ≡ some v → Says (parse S ks v)
-parse-says fuel S ks v l m k e = (given S ks (leb-true 1 S l) (leb-true S maxSlots m) k, run-says fuel S ks v e, λ x. ends x v (run-says fuel S ks v e (x .sentence) (x .sentence-kinds)))
+parse-says fuel S ks v l m k e = (given S ks (leb-true 1 S l) (leb-true S maxSlots m) k, run-says fuel S ks v e, λ x. ends-as x v (run-says fuel S ks v e (x .sentence) (x .sentence-kinds)))
 
 -- the trees that parse leaves of U and V
 abbrev pub treeU : List Cell

@@ -9,13 +9,14 @@ use lib.Dec.{eqb, leb, ltb}
 use borrow.Author.Tests.{eqb-true, eqb-false, eq-eqb, leb-true, le-leb, ltb-true, ltb-false, lt-ltb, le-ltb}
 use native.Mathlib.Omega.{arith}
 use Rattle.base.specs.Choose.{choose, choose-of, never}
-use Rattle.grammar.specs.Forest.{Forest, size, yield}
+use Rattle.grammar.specs.Grammar.{Grammar}
+use Rattle.grammar.specs.Prediction.{Prepared}
+use Rattle.grammar.specs.Forest.{Forest, size, yield, Derives}
 use Rattle.trees.specs.Area.{top, slots}
 use Rattle.edits.specs.Keeping.{Edit, Kept, before, after, symbol, own, At, Node, Keeps, Holds, Holding}
 use Rattle.edits.specs.Places.{at-number, at-one}
-use Rattle.edits.specs.One.{kept-one, keeps-old, keeps-node, void-below}
+use Rattle.edits.specs.One.{kept-one, keeps-one, keeps-old, keeps-node, void-below}
 use Rattle.edits.specs.Giving.{at-slot}
-use Rattle.matching.specs.Matching.{KeepsOne}
 
 -- ---- the first node of a tree that passes a test
 
@@ -199,7 +200,7 @@ length-matches e old v n t (Forest.node s M p k r) =
     let y = length-matches e old v (suc n) (t + length (yield k)) r in
     omega (arith, length-append (matches e old u 0 t k) (matches e old v (suc n) (t + length (yield k)) r))
 
-module _ {e : Edit} {old new : Forest} (one : KeepsOne e old new) where
+module _ {G : Grammar} (g : Prepared G) {e : Edit} {old new : Forest} (d : Derives G (G .start ∷ []) old) where
   full-right : {a' q' m' t' : ℕ} {f' : Forest} (o : Option ℕ) → was e t' ≡ o → Node new a' q' m' t' f' → 1 ≤ own f' → Match e old new a' (full old (symbol f') o)
   unfolding full
   full-right {a'} {q'} {m'} {t'} {f'} none w h l = Match.makes go
@@ -229,7 +230,7 @@ module _ {e : Edit} {old new : Forest} (one : KeepsOne e old new) where
       found : {v : ℕ} → Sought (stands p m') 1 0 0 0 old v → Match e old new a' v
       found (Sought.met {q = q} {m = m} {t = s} {f = f} u x) = let y = stands-true p m' q m s f x in Match.keeps (Keeps.void h (rw (y .2) at u) (rw (sym (y .1)) at k) z (y .0))
       found (Sought.missed f) =
-          Match.makes (λ a x. let b = void-below h z x in stands-false p m' (b .parent) m' (b .token) (b .forest) (b .none) (one q' (b .parent) p (b .keeps) k) refl (f a (b .parent) m' (b .token) (b .forest) (b .node)))
+          Match.makes (λ a x. let b = void-below h z x in stands-false p m' (b .parent) m' (b .token) (b .forest) (b .none) (keeps-one g d (b .keeps) k) refl (f a (b .parent) m' (b .token) (b .forest) (b .node)))
 
   source-right : {a' q' m' t' v : ℕ} {f' : Forest} → Node new a' q' m' t' f' → Match e old new q' v → Match e old new a' (source e old v m' t' (symbol f') (own f'))
   unfolding source
@@ -294,10 +295,10 @@ match-holds {e} {old} {new} {i} (Match.keeps {a = a} k) = go a k
         let y : top (n .forest) ≡ getD (slots old) a 0 = sym (s .is) ∙ ap (λ (x : ℕ). getD (slots old) x 0) z in
         rw y at (Holds.keeps k (n .node))
 
-pub held-right : {e : Edit} {old new : Forest} → KeepsOne e old new → Holding e old new (held e old new)
+pub held-right : {G : Grammar} → Prepared G → {e : Edit} {old new : Forest} → Derives G (G .start ∷ []) old → Holding e old new (held e old new)
 unfolding held
-held-right {e} {old} {new} one =
-    let m = matches-right one 1 0 0 0 1 new (λ a q m t f u. u) (Match.keeps (Keeps.above refl refl)) in
+held-right g {e} {old} {new} d =
+    let m = matches-right g {e = e} d 1 0 0 0 1 new (λ a q m t f u. u) (Match.keeps (Keeps.above refl refl)) in
     let vs : List ℕ = matches e old 1 0 0 new in
     let l = length-matches e old 1 0 0 new in
     record {

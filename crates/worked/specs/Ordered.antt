@@ -1,7 +1,7 @@
 -- Every sentence that the plain parse accepts has a tree in order, and that tree has an area.
 use Prim.Native.Nat.{ℕ, zero, suc, _+_, _≤_, _<_}
 use mathlib.Core.Path.{_≡_, refl, sym, ap, _∙_}
-use mathlib.Core.List.{List, [], _∷_, _++_, List·Memᴰ}
+use mathlib.Core.List.{List, _∷_, _++_, List·Memᴰ}
 use native.Mathlib.Omega.{arith}
 use Rattle.grammar.specs.Each.{Each, each-map}
 use Rattle.grammar.specs.Grammar.{Grammar}
@@ -13,7 +13,7 @@ use Rattle.plain.specs.Traced.{Same}
 use Rattle.plain.specs.Alike.{same-size, same-yield}
 use Rattle.plain.specs.Exactly.{accepted-exactly}
 use Rattle.plain.specs.Tokens.{Tagged}
-use Rattle.kindlesap.specs.Parse.{upFrom, Stored}
+use Rattle.calls.specs.Parse.{upFrom, Stored}
 use Rattle.worked.specs.Laid.{laid}
 
 -- ---- numbers in order

@@ -15,14 +15,15 @@ use Rattle.grammar.specs.Grammar.{WellFormed}
 use Rattle.grammar.specs.Derivation.{Useless}
 use Rattle.grammar.specs.Prediction.{Prepared}
 use Rattle.grammar.specs.Rows.{leftAt, lengthAt, symbolAt, grammarIn}
-use Rattle.grammar.specs.Reference.{reference, reference-image}
+use Rattle.grammar.specs.Reference.{reference, referenceImage, reference-image}
 use Rattle.sets.specs.Words.{leads, suffix}
 use Rattle.predictions.specs.Hits.{hasb, hasb-has, has-hasb, predictors, Hit, Clash}
 use Rattle.predictions.specs.Idle.{BusyTo, none, busy-none, busy-more, idle-useful}
 use Rattle.predictions.specs.Listing.{Cell, empty, full, Low, Listed}
 use Rattle.predictions.specs.Verdict.{low-ll1}
 use Rattle.tables.specs.Cells.{lead, stepOf}
-use Rattle.worked.specs.Words.{rows, words, is-reference, known}
+use Rattle.calls.specs.CheckLaws.{Fit}
+use Rattle.worked.specs.Words.{head, rows, words, is-reference, known}
 
 -- ---- a test of every number below n, computed once
 
@@ -41,14 +42,14 @@ below-at (suc n) f e i l = go (f n) refl e (λ h. below-at n f h i)
 
 -- ---- it is prepared
 
-formed : WellFormed (grammarIn rows 5 5 6 8)
+formed : WellFormed (grammarIn rows head)
 formed = rw is-reference (reference-image .formed)
 
 busy : BusyTo words 5 10
 unfolding words
 busy = busy-more words 5 9 refl (busy-more words 5 8 refl (busy-more words 5 7 refl (busy-more words 5 6 refl (busy-more words 5 5 refl (busy-none words 5)))))
 
-useful : (M : ℕ) → Useless (grammarIn rows 5 5 6 8) M → ⊥
+useful : (M : ℕ) → Useless (grammarIn rows head) M → ⊥
 unfolding grammarIn
 useful = idle-useful known formed (none busy) refl
 
@@ -106,11 +107,15 @@ no-clash M c =
 low : Low rows words 8 0
 low = Low.none no-clash
 
-pub prepared : Prepared (grammarIn rows 5 5 6 8)
-prepared = record { formed = formed; useful = useful; ll1 = low-ll1 rows 5 5 6 8 words known formed useful low refl }
+pub prepared : Prepared (grammarIn rows head)
+prepared = record { formed = formed; useful = useful; ll1 = low-ll1 rows head words known formed useful low refl }
 
 pub reference-prepared : Prepared reference
 reference-prepared = rw is-reference at prepared
+
+-- its image passes the checks of replies 1 to 3
+pub reference-fit : Fit referenceImage reference
+reference-fit = record { reads = reference-image; prepared = reference-prepared }
 
 -- ---- the cells
 
