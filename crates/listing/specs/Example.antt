@@ -2,26 +2,25 @@
 use Prim.Native.Nat.{ℕ, _*_, _≤_, _<_}
 use mathlib.Core.Path.{_≡_, refl, ap, subst, _∙_}
 use mathlib.Core.List.{List, [], _∷_, _++_}
-use lib.ListN.{length}
 use native.Mathlib.Omega.{arith}
 use Rattle.base.specs.Bytes.{leBytes}
-use Rattle.base.specs.Blocks.{zeros, length-zeros}
 use Rattle.base.specs.Choose.{choose}
 use Rattle.grammar.specs.Each.{Each}
 use Rattle.grammar.specs.Forest.{Token, Forest, nil, leaf, node, size, Derives}
-use Rattle.grammar.specs.Reference.{reference, reference-image}
+use Rattle.grammar.specs.Reference.{reference}
 use Rattle.tables.specs.Tables.{tablesSize, Tables}
-use Rattle.trees.specs.Area.{maxSlots, tagSpace, areaSize, Area}
+use Rattle.trees.specs.Area.{maxSlots, tagSpace, areaSize, workAreas, Area}
 use Rattle.plain.specs.Plain as plain
 use Rattle.plain.specs.Tokens.{Sentence}
-use Rattle.replies.specs.Reply.{noCounts}
 use Rattle.replies.specs.declared.Reply.{Reply}
 use Rattle.replies.specs.declared.Reply.the-variants.{Accepted}
-use Rattle.order.specs.Order.{Done, accepted as done, require-single, passes}
-use Rattle.order.specs.Single.{area-single, sentence-single, parsed-single, given-fit}
-use Rattle.kindlesap.specs.Prepare.{writes}
-use Rattle.kindlesap.specs.Parse.{workAreas, Sized, parseCounts, Stored, Storage, fits, Fits, stored-one, stored-parses}
-use Rattle.worked.specs.Ready.{reference-prepared}
+use Rattle.calls.specs.Checks.{Sized}
+use Rattle.calls.specs.Prepare.{prepareWith}
+use Rattle.calls.specs.Parse.{parseCounts, Stored, parseWith}
+use Rattle.calls.specs.OrderLaws.{passes, has-counts, require-single}
+use Rattle.calls.specs.CheckLaws.{area-single, sentence-single, parsed-single, given-rest}
+use Rattle.calls.specs.CallsUnique.{stored-one, stored-parses}
+use Rattle.worked.specs.Ready.{reference-prepared, reference-fit}
 use Rattle.listing.specs.Text.{digitsOf, field, nodeRows, firstRow, acceptedText, Parsed, Prints, too-long, refused, accepted}
 use Rattle.listing.specs.Printing.{prints-one}
 
@@ -87,30 +86,21 @@ grown =
 -- ---- parse stores it
 
 parses : plain.Parses reference maxSlots exampleTokens (plain.accepted 9)
-parses = stored-parses reference-prepared (omega arith) grown
-
-stored-example : {r : Reply} {b : List ℕ} → Done (Storage reference maxSlots exampleTokens) r b → (r ≡ Accepted (parseCounts 9)) × Area maxSlots exampleTree b
-stored-example (done {after = b} x) =
-    let e : x .tree ≡ exampleTree = stored-one reference-prepared (x .stored) grown in
-    (ap Accepted (x .counts ∙ ap (λ f. parseCounts (size f)) e), subst (λ f. Area maxSlots f b) e (x .area))
-
-fits-example : (tables tree b : List ℕ) (room : ℕ) (r : Reply) → Tables reference tables → Sized maxSlots tree → workAreas * length tree ≤ room → Fits tables exampleBytes room tree reference r b
-    → (r ≡ Accepted (parseCounts 9)) × Area maxSlots exampleTree b
-fits-example tables tree b room r t z l h =
-    stored-example (passes (parsed-single reference-prepared) parses (passes sentence-single spelt (passes require-single l (passes area-single z (passes require-single t h)))))
-
-written : {w' : List ℕ} {r : Reply} → Done (λ c w. (c ≡ noCounts) × Tables reference w) r w' → Tables reference w'
-written (done p) = p .1
+parses = stored-parses (omega arith) grown
 
 -- whatever the call leaves, it has accepted the tokens, and the area is the tree's
 pub example-parsed : {r : Reply} {b : List ℕ} → Parsed exampleBytes r b → (r ≡ Accepted (parseCounts 9)) × Area maxSlots exampleTree b
-example-parsed {r} {b} h =
-    let n = length-zeros (areaSize maxSlots) in
-    let tree : List ℕ = zeros (areaSize maxSlots) in
-    let room : ℕ = length (zeros (workAreas * areaSize maxSlots)) in
-    let t = written (passes require-single (length-zeros tablesSize) (given-fit _ (writes (zeros tablesSize)) (zeros tablesSize) (h .told) (h .tables) reference-image reference-prepared (h .prepares))) in
-    fits-example (h .tables) tree b room r t (record { some = omega arith; few = omega arith; long = n }) (omega (arith, n, length-zeros (workAreas * areaSize maxSlots)))
-    (given-fit _ (fits (h .tables) exampleBytes room tree) tree r b reference-image reference-prepared (h .parses .opened))
+example-parsed {b = b} h =
+    let room : ℕ = workAreas * areaSize maxSlots in
+    let l : workAreas * areaSize maxSlots ≤ room = omega arith in
+    let z : Sized maxSlots (areaSize maxSlots) = record { some = omega arith; few = omega arith; long = refl } in
+    let p = passes require-single refl (given-rest (prepareWith tablesSize) reference-fit (h .prepares)) in
+    let t : Tables reference (h .tables) = has-counts p .2 .1 in
+    let o = given-rest (parseWith (h .tables) exampleBytes room (areaSize maxSlots)) reference-fit (h .parses .outcome) in
+    let s = passes sentence-single spelt (passes require-single l (passes area-single z (passes require-single t o))) in
+    let (c, q, x) = has-counts (passes (parsed-single reference-prepared) parses s) in
+    let e : x .tree ≡ exampleTree = stored-one reference-prepared (x .stored) grown in
+    (q ∙ ap Accepted (x .counts ∙ ap (λ f. parseCounts (size f)) e), subst (λ f. Area maxSlots f b) e (x .area))
 
 -- ---- the text
 

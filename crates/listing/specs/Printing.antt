@@ -6,21 +6,22 @@ use lib.ListN.{length, take}
 use native.Mathlib.Omega.{arith}
 use Rattle.base.specs.Choose.{never}
 use Rattle.base.specs.Blocks.{zeros, length-zeros}
-use Rattle.grammar.specs.Reference.{reference, referenceImage, reference-image}
-use Rattle.grammar.specs.Forest.{Token, Forest, size}
+use Rattle.grammar.specs.Reference.{referenceImage}
+use Rattle.grammar.specs.Forest.{Forest, size}
 use Rattle.tables.specs.Tables.{tablesSize}
-use Rattle.trees.specs.Area.{maxSlots, areaSize, slots, Area}
+use Rattle.trees.specs.Area.{maxSlots, areaSize, workAreas, slots, Area}
 use Rattle.replies.specs.Reply.{numberOf, placeOf, expectedOf, countsOf}
 use Rattle.replies.specs.declared.Counts.{Counts}
 use Rattle.replies.specs.declared.Reason.{Reason}
 use Rattle.replies.specs.declared.Reply.{Reply}
 use Rattle.replies.specs.declared.Reply.the-variants.{Accepted, Refused}
-use Rattle.order.specs.Order.{has-passed, is-accepted}
-use Rattle.order.specs.Single.{given-fit}
-use Rattle.kindlesap.specs.Prepare.{Prepares, prepares-one}
-use Rattle.kindlesap.specs.Parse.{workAreas, upFrom, parseCounts, Storage, fits, ParseOutcome, parse-one}
-use Rattle.worked.specs.Ready.{reference-prepared}
-use Rattle.listing.specs.Text.{maxInput, refusedText, acceptedText, Parsed, Prints, too-long, refused, accepted}
+use Rattle.calls.specs.Order.{Outcome, Ends}
+use Rattle.calls.specs.Prepare.{prepareCall}
+use Rattle.calls.specs.Parse.{upFrom, parseCounts, parseCall}
+use Rattle.calls.specs.OrderLaws.{one-outcome, ends-one}
+use Rattle.calls.specs.CallsUnique.{prepare-settled, parse-settled}
+use Rattle.calls.specs.Demand2.{parse-stores}
+use Rattle.listing.specs.Text.{maxInput, refusedText, acceptedText, ParseEnds, Parsed, Prints, too-long, refused, accepted}
 use Rattle.listing.specs.Writing.{Written, written-whole}
 use Rattle.listing.specs.Rows.{areaText, accepted-text}
 
@@ -35,19 +36,13 @@ pub data Left (b : List ℕ) : Reply → Type 0 where
   tree : (f : Forest) → size f ≤ maxSlots → Area maxSlots f b → slots f ≡ upFrom 1 (size f) → Left b (Accepted (parseCounts (size f)))
 
 pub parsed-left : {tokens b : List ℕ} {r : Reply} → Parsed tokens r b → Left b r
-parsed-left {tokens} {b} {r} h = go r refl
-  where
-    left : {S : ℕ} {w : List Token} (c : Counts) → S ≡ maxSlots → Storage reference S w c b → Left b (Accepted c)
-    left c e x =
-        rw (x .counts) (tree (x .tree) (omega (arith, e, x .stored .fits)) (subst (λ (k : ℕ). Area k (x .tree) b) e (x .area)) (x .stored .order))
-
-    go : (q : Reply) → r ≡ q → Left b q
-    go (Refused x) e = nothing x
-    go (Accepted c) e =
-        let a = given-fit referenceImage (fits (h .tables) tokens (length (zeros (workAreas * areaSize maxSlots))) (zeros (areaSize maxSlots))) (zeros (areaSize maxSlots)) r b reference-image reference-prepared (h .parses .opened) in
-        let o = has-passed e (has-passed e a .2) in
-        let s = has-passed e (has-passed e (o .2) .2) in
-        left c (omega (arith, o .1 .long, length-zeros (areaSize maxSlots))) (is-accepted e (has-passed e (s .2) .2))
+parsed-left {r = Refused x} h = nothing x
+parsed-left {b = b} {r = Accepted c} h =
+    let s = parse-stores c b (h .parses .outcome) in
+    let x = s .storage in
+    let e : s .reached .slots ≡ maxSlots = omega (arith, s .reached .sized .long) in
+    let a : Area maxSlots (x .tree) b = subst (λ (k : ℕ). Area k (x .tree) b) e (x .area) in
+    rw (x .counts) (tree (x .tree) (omega (arith, e, x .stored .fits)) a (x .stored .order))
 
 pub left-few : {b : List ℕ} {r : Reply} → Left b r → countsOf r .total ≤ maxSlots
 left-few (nothing x) = omega arith
@@ -67,8 +62,11 @@ long-prints l k = rw (written-whole k) (too-long l)
 
 parsed-one : {tokens b b' : List ℕ} {r r' : Reply} → Parsed tokens r b → Parsed tokens r' b' → (r ≡ r') × (b ≡ b')
 parsed-one {tokens} {b} {r = r} h k =
-    let q : h .tables ≡ k .tables = prepares-one _ _ _ _ (h .prepares) (k .prepares) .1 in
-    let y = parse-one (subst (λ (u : List ℕ). ParseOutcome referenceImage u tokens (zeros (areaSize maxSlots)) (zeros (workAreas * areaSize maxSlots)) r b (h .work)) q (h .parses)) (k .parses) in
+    let settled = prepare-settled referenceImage tablesSize in
+    let q : h .tables ≡ k .tables =
+    one-outcome (prepareCall referenceImage tablesSize) settled (zeros tablesSize) _ _ _ _ (h .prepares) (k .prepares) .1 in
+    let p = subst (λ (t : List ℕ). ParseEnds t tokens r b (h .work)) q (h .parses) in
+    let y = ends-one _ (parse-settled _ _ _ _ _) p (k .parses) in
     (y .0, y .1)
 
 text-accepted : {tokens b : List ℕ} (f : Forest) → Parsed tokens (Accepted (parseCounts (size f))) b → Area maxSlots f b → slots f ≡ upFrom 1 (size f) → areaText b (size f) ≡ acceptedText f
@@ -104,7 +102,15 @@ reply-refused r x n p m b q en ep em h =
     let em' : m ≡ expectedOf (Refused x) = rw q at em in
     rw (q, ← en', ← ep', ← em') h
 
-pub parsed-of : {image tables₀ tables tokens tree₀ tree work₀ work : List ℕ} {told r : Reply} → image ≡ referenceImage → tables₀ ≡ zeros tablesSize → tree₀ ≡ zeros (areaSize maxSlots)
-    → work₀ ≡ zeros (workAreas * areaSize maxSlots) → Prepares image tables₀ told tables → ParseOutcome image tables tokens tree₀ work₀ r tree work → Parsed tokens r tree
+pub parsed-of : {image tables₀ tables tokens tree₀ tree work₀ work : List ℕ} {told r : Reply} → image ≡ referenceImage
+    → tables₀ ≡ zeros tablesSize → tree₀ ≡ zeros (areaSize maxSlots) → work₀ ≡ zeros (workAreas * areaSize maxSlots)
+    → Outcome (prepareCall image (length tables₀)) tables₀ told tables
+    → Ends (parseCall image tables tokens (length work₀) (length tree₀)) tree₀ work₀ r tree work → Parsed tokens r tree
 parsed-of {tables = tables} {work = work} {told = told} ei et ea ew h k =
-    record { told = told; tables = tables; work = work; prepares = rw (ei, et) at h; parses = rw (ei, ea, ew) at k }
+    record {
+      told = told;
+      tables = tables;
+      work = work;
+      prepares = rw (ei, et, length-zeros tablesSize) at h;
+      parses = rw (ei, ea, ew, length-zeros (areaSize maxSlots), length-zeros (workAreas * areaSize maxSlots)) at k;
+    }

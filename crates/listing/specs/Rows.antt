@@ -11,8 +11,8 @@ use Rattle.trees.specs.Area.{slotSize, maxSlots, tagSpace, tokensPlace, headerB
 use Rattle.trees.specs.Slots.{slot-byte}
 use Rattle.trees.specs.Spread.{length-slots}
 use Rattle.walks.specs.Slots.{symbolIn, productionIn, parentIn, tagIn, Fields, fields}
-use Rattle.kindlesap.specs.Parse.{upFrom}
 use Rattle.matching.specs.Measure.{few-tokens}
+use Rattle.calls.specs.Parse.{upFrom}
 use Rattle.listing.specs.Text.{row, firstRow, nodeRows, acceptedText}
 use Rattle.listing.specs.Writing.{Written, written-none, written-join}
 

@@ -9,13 +9,14 @@ use Rattle.base.specs.Blocks.{zeros}
 use Rattle.grammar.specs.Forest.{Forest, size, yield}
 use Rattle.grammar.specs.Reference.{referenceImage}
 use Rattle.tables.specs.Tables.{tablesSize}
-use Rattle.trees.specs.Area.{maxSlots, areaSize, slots, Area}
+use Rattle.trees.specs.Area.{maxSlots, areaSize, workAreas, slots, Area}
 use Rattle.replies.specs.Reply.{numberOf, placeOf, expectedOf}
 use Rattle.replies.specs.declared.Reason.{Reason}
 use Rattle.replies.specs.declared.Reply.{Reply}
 use Rattle.replies.specs.declared.Reply.the-variants.{Accepted, Refused}
-use Rattle.kindlesap.specs.Prepare.{Prepares}
-use Rattle.kindlesap.specs.Parse.{workAreas, upFrom, parseCounts, ParseOutcome}
+use Rattle.calls.specs.Order.{Outcome, Ends}
+use Rattle.calls.specs.Prepare.{prepareCall}
+use Rattle.calls.specs.Parse.{upFrom, parseCounts, parseCall}
 
 abbrev pub space : ℕ
 space = 32
@@ -71,13 +72,19 @@ refusedText number place expected = refusedWord ++ row (number ∷ place ∷ exp
 abbrev pub maxInput : ℕ
 maxInput = 5000
 
--- "parses them with the built-in grammar and 1,000 slots": the reply, and the tree area after the call
+-- "parses them with the built-in grammar and 1,000 slots"; the reply, and tree area and work after it
+abbrev pub ParseEnds : (tables tokens : List ℕ) → Reply → List ℕ → List ℕ → Type 0
+ParseEnds tables tokens =
+    Ends (parseCall referenceImage tables tokens (workAreas * areaSize maxSlots) (areaSize maxSlots)) (zeros (areaSize maxSlots))
+    (zeros (workAreas * areaSize maxSlots))
+
+-- the same, with the tables that prepare writes
 pub record Parsed (tokens : List ℕ) (r : Reply) (tree : List ℕ) : Type 0 where
   pub told : Reply
   pub tables : List ℕ
   pub work : List ℕ
-  pub prepares : Prepares referenceImage (zeros tablesSize) told tables
-  pub parses : ParseOutcome referenceImage tables tokens (zeros (areaSize maxSlots)) (zeros (workAreas * areaSize maxSlots)) r tree work
+  pub prepares : Outcome (prepareCall referenceImage tablesSize) (zeros tablesSize) told tables
+  pub parses : ParseEnds tables tokens r tree work
 
 -- the text of token bytes
 pub data Prints (tokens : List ℕ) : List ℕ → Type 0 where

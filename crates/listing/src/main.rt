@@ -2,7 +2,6 @@
 use libc::STDIN_FILENO;
 use libc::STDOUT_FILENO;
 use replies::Reply;
-ghost use mathlib.Core.Path.{_≡_};
 ghost use Prim.Native.Nat.{_+_, _*_, _≤_};
 ghost use lib.ListN.{length, take};
 ghost use Rattle.io.specs.Counts.{Counts};
@@ -20,7 +19,7 @@ const SLOTS: usize = trees::MAX_SLOTS;
 
 const AREA_SIZE: usize = trees::HEADER_SIZE + trees::SLOT_SIZE * SLOTS;
 
-const WORK_SIZE: usize = kindlesap::WORK_AREAS * AREA_SIZE;
+const WORK_SIZE: usize = trees::WORK_AREAS * AREA_SIZE;
 
 // A 64-bit number has at most 20 digits, and a mark behind it; a line has at most five such fields.
 const FIELD_ROOM: usize = 21;
