@@ -73,6 +73,19 @@ among-false s (x ∷ xs) =
     choose-of (λ b. b ≡ false → List·Memᴰ s (x ∷ xs) → ⊥) (eqb s x) _ _ (λ z e. never (cc))
     (λ z e m. ⊎-elim (eqb-false s x z) (among-false s xs e) (List·Memᴰ·cases-cons m))
 
+-- the two lists have nothing in common
+unfoldable pub apart : List ℕ → List ℕ → Bool
+apart [] ts = true
+apart (s ∷ ss) ts = not (among s ts) && apart ss ts
+
+pub apart-right : {s : ℕ} {ss ts : List ℕ} → apart ss ts ≡ true → List·Memᴰ s ss → List·Memᴰ s ts → ⊥
+unfolding apart
+apart-right {ss = []} e m n = List·Memᴰ·not-nil m
+apart-right {ss = x ∷ ss} {ts} e m n =
+    let u = both-true _ _ e in
+    let f : List·Memᴰ x ts → ⊥ = among-false x ts (not-true (among x ts) (u .0)) in
+    ⊎-elim (λ z. f (rw z at n)) (λ k. apart-right (u .1) k n) (List·Memᴰ·cases-cons m)
+
 -- the slots from s up to y are among those held
 unfoldable pub filled : List ℕ → ℕ → ℕ → Bool
 filled held s y = below y (λ z. choose (ltb z s) (λ _. true) (λ _. among z held))

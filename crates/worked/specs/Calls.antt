@@ -1,16 +1,13 @@
 -- Calls of parse with the reference grammar: what an example says of one, and how the plain parse gives it.
 use Prim.Native.Nat.{ℕ, _*_, _≤_}
-use mathlib.Core.Path.{_≡_, refl, ap, sym}
-use mathlib.Core.Bool.{Bool, true, _&&_}
-use mathlib.Core.List.{List, [], _∷_}
+use mathlib.Core.Path.{_≡_, refl, ap, sym, _∙_}
+use mathlib.Core.Bool.{true}
+use mathlib.Core.List.{List, []}
 use lib.ListN.{length}
-use lib.Dec.{leb}
-use borrow.Author.Tests.{leb-true}
 use native.Mathlib.Omega.{arith}
 use Rattle.base.specs.Blocks.{zeros, length-zeros}
-use Rattle.grammar.specs.Each.{Each}
-use Rattle.grammar.specs.Grammar.{Grammar, TerminalOf}
-use Rattle.grammar.specs.Forest.{Token, kinds, Forest}
+use Rattle.grammar.specs.Grammar.{Grammar}
+use Rattle.grammar.specs.Forest.{Token, kinds, Forest, size}
 use Rattle.grammar.specs.Reference.{reference, referenceImage}
 use Rattle.trees.specs.Area.{maxSlots, areaSize, workAreas, Area}
 use Rattle.plain.specs.Plain.{Verdict, accepted, syntax, noRoom, Parses}
@@ -20,13 +17,13 @@ use Rattle.replies.specs.declared.Reason.the-variants.{Syntax, NoRoom}
 use Rattle.replies.specs.declared.Reply.the-variants.{Accepted, Refused}
 use Rattle.calls.specs.Order.{Call, Outcome, Ends, refused, passed, accepted as done}
 use Rattle.calls.specs.Checks.{Sized, wrong-syntax, no-room}
-use Rattle.calls.specs.Parse.{Stored, parseCounts, Storage, parseWith, parseCall}
+use Rattle.calls.specs.Parse.{upFrom, Stored, parseCounts, Storage, parseWith, parseCall}
 use Rattle.calls.specs.CheckLaws.{given-passed}
 use Rattle.worked.specs.Ready.{reference-fit}
 use Rattle.worked.specs.Entries.{referenceTables, reference-tables}
-use Rattle.worked.specs.Match.{both-true}
 use Rattle.worked.specs.Ordered.{stores, stored-laid}
-use Rattle.worked.specs.Edits.{spelled, kinds-spelled, spelled-tags}
+use Rattle.worked.specs.EditRows.{OldTree, Setting}
+use Rattle.worked.specs.Edits.{spelled, kinds-spelled, spoken, spelled-sentence}
 
 -- ---- what an example says of a parse
 
@@ -50,6 +47,7 @@ Answers x r tree' =
 pub record Accepts {S : ℕ} {ks : List ℕ} (n : ℕ) (x : Given S ks) : Type 0 where
   pub tree : Forest
   pub stored : Stored reference S (x .sentence) tree
+  pub nodes : size tree ≡ n
   pub bytes : List ℕ
   pub area : Area S tree bytes
   pub outcome : Answers x (Accepted (parseCounts n)) bytes
@@ -62,18 +60,6 @@ EndsAs x noRoom = Answers x (Refused NoRoom) (x .tree)
 
 -- ---- of all kinds 1..5 there is such a call
 
-unfoldable pub spoken : List ℕ → Bool
-spoken [] = true
-spoken (k ∷ ks) = leb 1 k && (leb k 5 && spoken ks)
-
-pub spoken-right : (ks : List ℕ) → spoken ks ≡ true → Each (TerminalOf (reference .t)) ks
-unfolding spoken reference
-spoken-right [] e = Each.nil
-spoken-right (k ∷ ks) e =
-    let u = both-true _ _ e in
-    let v = both-true _ _ (u .1) in
-    Each.cons (leb-true 1 k (u .0), leb-true k 5 (v .0)) (spoken-right ks (v .1))
-
 pub given : (S : ℕ) (ks : List ℕ) → 1 ≤ S → S ≤ maxSlots → spoken ks ≡ true → Given S ks
 given S ks l m e =
     let n = length-zeros (areaSize S) in
@@ -81,7 +67,7 @@ given S ks l m e =
       sentence = spelled ks [];
       sentence-kinds = kinds-spelled ks [];
       tokens = tokenBytes (spelled ks []);
-      spelt = record { is = refl; kinds = rw (kinds-spelled ks []) (spoken-right ks e); tags = spelled-tags ks };
+      spelt = spelled-sentence ks e;
       tree = zeros (areaSize S);
       sized = record { some = l; few = m; long = n };
       work = zeros (workAreas * areaSize S);
@@ -105,9 +91,38 @@ module _ {S : ℕ} {ks : List ℕ} (x : Given S ks) where
       record {
         tree = q .0;
         stored = q .1;
+        nodes = q .2;
         bytes = b .0;
         area = b .1;
         outcome = answered (passed reference-tables (passed (x .sized) (passed (x .long) (passed (x .spelt) (passed p (done d))))));
       }
   ends-as (syntax i e) p = answered (passed reference-tables (passed (x .sized) (passed (x .long) (passed (x .spelt) (refused (wrong-syntax p))))))
   ends-as noRoom p = answered (passed reference-tables (passed (x .sized) (passed (x .long) (passed (x .spelt) (refused (no-room p))))))
+
+-- ---- what parse leaves, an edit may start from
+
+-- the tree of n nodes that parse leaves of a sentence of these kinds: "Parse puts nodes in slots 1, 2, .. in preorder"
+abbrev pub parsedTree : (S : ℕ) (ks : List ℕ) (n : ℕ) → OldTree
+parsedTree S ks n = record { S = S; sentence = ks; slots = upFrom 1 n }
+
+-- with new tokens of tags 0
+pub parsed-setting : {S n : ℕ} {ks : List ℕ} {x : Given S ks} → Accepts n x → (new : List ℕ) → spoken new ≡ true
+    → Setting (parsedTree S ks n) new
+parsed-setting {x = x} a new e =
+    let h = a .stored in
+    record {
+      some = x .sized .some;
+      few = x .sized .few;
+      sentence = x .sentence;
+      sentence-kinds = x .sentence-kinds;
+      old = a .tree;
+      placed = record { derives = h .derives; yields = h .yields; order = h .order ∙ ap (upFrom 1) (a .nodes) };
+      tree = a .bytes;
+      area = a .area;
+      inserted = spelled new [];
+      inserted-kinds = kinds-spelled new [];
+      tokens = tokenBytes (spelled new []);
+      spelt = spelled-sentence new e;
+      work = zeros (workAreas * length (a .bytes));
+      long = omega (arith, length-zeros (workAreas * length (a .bytes)));
+    }

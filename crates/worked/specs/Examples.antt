@@ -1,15 +1,15 @@
--- The starred examples of document 01: one table, proved by one statement about the definitions.
+-- The starred examples of document 01, and one edit more, after H: one table, proved by one statement about the definitions.
 use Prim.Native.Nat.{ℕ, _+_, _-_, _*_, _≤_, _<_}
 use mathlib.Core.Path.{_≡_, refl, ap, _∙_}
 use mathlib.Core.Bool.{true}
 use mathlib.Core.Option.{some}
 use mathlib.Core.List.{List, [], _∷_}
-use lib.ListN.{getD}
+use lib.ListN.{length, getD}
 use lib.Dec.{eqb, leb}
 use borrow.Author.Tests.{leb-true}
 use native.Mathlib.Omega.{arith}
 use Rattle.base.specs.Choose.{choose}
-use Rattle.base.specs.Blocks.{zeros}
+use Rattle.base.specs.Blocks.{zeros, length-zeros}
 use Rattle.grammar.specs.Limits.{columns}
 use Rattle.grammar.specs.Each.{Each}
 use Rattle.grammar.specs.Prediction.{Break}
@@ -19,7 +19,7 @@ use Rattle.predictions.specs.Hits.{hasb}
 use Rattle.tables.specs.Tables.{rowSymbol, Prediction, Tables}
 use Rattle.tables.specs.One.{tables-one}
 use Rattle.tables.specs.Cells.{next, stemBits, sharedFrom, behindOf, pointOf}
-use Rattle.trees.specs.Area.{maxSlots}
+use Rattle.trees.specs.Area.{maxSlots, workAreas}
 use Rattle.plain.specs.Plain.{Verdict, accepted, syntax, noRoom, Parses}
 use Rattle.plain.specs.Machine.{marked}
 use Rattle.replies.specs.declared.Reason.{Reason}
@@ -33,8 +33,9 @@ use Rattle.worked.specs.Sums.{sum, sum-same, sum-none, sum-first, sum-ro
 use Rattle.worked.specs.Run.{body, lit, leaf, grown, inner, turn, run, run-right}
 use Rattle.worked.specs.Match.{orElse, seek, starts, stands, was, full, void, source, matches, slotOf, slotsOf, held}
 use Rattle.worked.specs.Alter.{grows, among, filled, gives, givenUp}
-use Rattle.worked.specs.Calls.{Given, EndsAs, spoken, spoken-right, given, ends-as}
-use Rattle.worked.specs.Edits.{Cell, kept, made, Row, Setting, Replies, Remade, spelled, noded, planted, facts, Found, found-setting, edit-says, syntax-says, beyond-says}
+use Rattle.worked.specs.Calls.{Given, EndsAs, given, ends-as, parsedTree, parsed-setting}
+use Rattle.worked.specs.EditRows.{Cell, kept, made, OldTree, Row, leftBy, Setting, Replies, Remade}
+use Rattle.worked.specs.Edits.{spelled, kinds-spelled, spoken, spelled-sentence, noded, planted, facts, Found, edit-says, left-setting, syntax-says, beyond-says}
 
 -- ---- what an example says
 
@@ -75,18 +76,19 @@ pub data Example : Type 0 where
   tree : (S : ℕ) (w : List Token) (f : Forest) → Example
   -- C to F. how a sentence of these kinds, whatever its tags, ends in S slots: by the plain parse, and by the call, which can be made
   parse : (S : ℕ) (ks : List ℕ) (v : Verdict) → Example
-  -- G to K. there is a tree that parse leaves of the sentence, and there are such new tokens; and whatever the tags of both, the edit of that tree is accepted
+  -- G to K. there is such an old tree, and there are such new tokens; and whatever the tags of both, the edit of that tree is accepted
   edit : (r : Row) → Example
-  -- or it is refused, and the tree untouched; there are S slots, ks the kinds of the sentence, and `new` those of the new tokens
-  refusal : (S : ℕ) (ks : List ℕ) (place removed : ℕ) (new : List ℕ) (reason : Reason) → Example
+  -- or it is refused, and the tree untouched; `new` are the kinds of the new tokens
+  refusal : (old : OldTree) (place removed : ℕ) (new : List ℕ) (reason : Reason) → Example
 
 abbrev pub Says : Example → Type 0
 Says (counts p b e) = Counted p b e
 Says (breakPoint M N a v) = Break reference M N a v × ((w : List ℕ) → Tables reference w → getD w (breakByte (M - 6) (N - 6) a) 0 ≡ v)
 Says (tree S w f) = Stored reference S w f
 Says (parse S ks v) = Given S ks × ((w : List Token) → kinds w ≡ ks → Parses reference S w v) × ((x : Given S ks) → EndsAs x v)
-Says (edit r) = Setting (r .S) (r .sentence) (r .inserted) × ((x : Setting (r .S) (r .sentence) (r .inserted)) → Remade r x)
-Says (refusal S ks place removed new reason) = Setting S ks new × ((x : Setting S ks new) → Replies x place removed (Refused reason) (x .tree))
+Says (edit r) = Setting (r .old) (r .inserted) × ((x : Setting (r .old) (r .inserted)) → Remade r x)
+Says (refusal old place removed new reason) =
+    Setting old new × ((x : Setting old new) → Replies x place removed (Refused reason) (x .tree))
 
 -- ---- the table
 
@@ -97,12 +99,18 @@ kindsU = 1 ∷ 2 ∷ 5 ∷ []
 abbrev pub kindsV : List ℕ
 kindsV = 1 ∷ 2 ∷ 5 ∷ 1 ∷ 2 ∷ 5 ∷ []
 
+-- "with its tree as parse leaves it (17 nodes). S is 1,000 where not said"
+abbrev pub treeU : OldTree
+treeU = parsedTree 1000 kindsU 9
+
+abbrev pub treeV : OldTree
+treeV = parsedTree 1000 kindsV 17
+
 -- G. "U's tree, at 2 remove 0, insert `4 2`": "New Bar in slot 7; the other four in 10 to 13"
 abbrev pub exampleG : Row
 exampleG =
     record {
-      S = 1000;
-      sentence = kindsU;
+      old = treeU;
       place = 2;
       removed = 0;
       inserted = 4 ∷ 2 ∷ [];
@@ -117,8 +125,7 @@ exampleG =
 abbrev pub exampleH : Row
 exampleH =
     record {
-      S = 1000;
-      sentence = kindsV;
+      old = treeV;
       place = 0;
       removed = 3;
       inserted = [];
@@ -129,12 +136,33 @@ exampleH =
       nodes = kept 9 6 1 ∷ kept 10 7 3 ∷ kept 11 1 0 ∷ kept 12 8 4 ∷ kept 13 2 0 ∷ kept 14 9 6 ∷ kept 15 10 8 ∷ kept 16 5 0 ∷ kept 17 6 2 ∷ [];
     }
 
+-- the tree that H leaves: U's kinds in slots 9 to 17, slots 1 to 8 free
+abbrev pub treeH : OldTree
+treeH = leftBy exampleH
+
+-- one edit after another, so that the old tree is not as parse leaves it: H's tree, at 0 remove 0, insert `1 2 5`.
+-- The eight new nodes, a Book, which is the root, and a whole Rule, take the lowest free slots, 1 to 8; all of H's are kept
+abbrev pub afterH : Row
+afterH =
+    record {
+      old = treeH;
+      place = 0;
+      removed = 0;
+      inserted = kindsU;
+      total = 17;
+      kept = 9;
+      made = 8;
+      up = 0;
+      nodes =
+          made 1 6 1 ∷ made 2 7 3 ∷ made 3 1 0 ∷ made 4 8 4 ∷ made 5 2 0 ∷ made 6 9 6 ∷ made 7 10 8 ∷ made 8 5 0 ∷
+          kept 9 6 1 ∷ kept 10 7 3 ∷ kept 11 1 0 ∷ kept 12 8 4 ∷ kept 13 2 0 ∷ kept 14 9 6 ∷ kept 15 10 8 ∷ kept 16 5 0 ∷ kept 17 6 2 ∷ [];
+    }
+
 -- I. "V, at 2 remove 2, insert `3`": "New: Rest in 6, comma in 8, last Book in 9"
 abbrev pub exampleI : Row
 exampleI =
     record {
-      S = 1000;
-      sentence = kindsV;
+      old = treeV;
       place = 2;
       removed = 2;
       inserted = 3 ∷ [];
@@ -149,8 +177,7 @@ exampleI =
 abbrev pub exampleK : Row
 exampleK =
     record {
-      S = 1000;
-      sentence = kindsU;
+      old = treeU;
       place = 3;
       removed = 0;
       inserted = [];
@@ -178,10 +205,11 @@ examples =
     parse 1000 kindsV (accepted 17) ∷
     edit exampleG ∷
     edit exampleH ∷
+    edit afterH ∷
     edit exampleI ∷
-    refusal 1000 kindsV 2 2 [] (Syntax 2 56) ∷
+    refusal treeV 2 2 [] (Syntax 2 56) ∷
     edit exampleK ∷
-    refusal 1000 kindsU 3 1 [] (BeyondTokens 3) ∷ []
+    refusal treeU 3 1 [] (BeyondTokens 3) ∷ []
 
 -- ---- the values, computed
 
@@ -280,32 +308,57 @@ run-says fuel S ks v e w q = run-right fuel S (6 ∷ []) w 1 0 v (rw q e)
 parse-says : (fuel S : ℕ) (ks : List ℕ) (v : Verdict) → leb 1 S ≡ true → leb S maxSlots ≡ true → spoken ks ≡ true → run fuel S (6 ∷ []) ks 1 0 ≡ some v → Says (parse S ks v)
 parse-says fuel S ks v l m k e = (given S ks (leb-true 1 S l) (leb-true S maxSlots m) k, run-says fuel S ks v e, λ x. ends-as x v (run-says fuel S ks v e (x .sentence) (x .sentence-kinds)))
 
--- the trees that parse leaves of U and V
-abbrev pub treeU : List Cell
-treeU = made 1 6 1 ∷ made 2 7 3 ∷ made 3 1 0 ∷ made 4 8 4 ∷ made 5 2 0 ∷ made 6 9 6 ∷ made 7 10 8 ∷ made 8 5 0 ∷ made 9 6 2 ∷ []
+-- the old trees' nodes: each of them is the new tree of a row
+abbrev nodesU : List Cell
+nodesU = exampleK .nodes
 
-abbrev pub treeV : List Cell
-treeV =
-    made 1 6 1 ∷ made 2 7 3 ∷ made 3 1 0 ∷ made 4 8 4 ∷ made 5 2 0 ∷ made 6 9 6 ∷ made 7 10 8 ∷ made 8 5 0 ∷ made 9 6 1 ∷ made 10 7 3 ∷ made 11 1 0 ∷ made 12 8 4 ∷ made 13 2 0 ∷ made 14 9 6 ∷
-    made 15 10 8 ∷ made 16 5 0 ∷ made 17 6 2 ∷ []
+abbrev nodesV : List Cell
+nodesV = afterH .nodes
 
-pub row-says : (r : Row) (olds : List Cell) → Found r olds → 1 ≤ r .S → r .S ≤ maxSlots → spoken (r .inserted) ≡ true → Says (edit r)
-row-says r olds found l m i = (found-setting r olds found l m (spoken-right (r .inserted) i), edit-says r olds found)
+abbrev pub nodesH : List Cell
+nodesH = exampleH .nodes
+
+parseU-holds : Says (parse 1000 kindsU (accepted 9))
+unfolding run turn leaf inner grown body lit marked cell cells zeros choose reference spoken
+parseU-holds = parse-says 20 1000 kindsU (accepted 9) refl refl refl refl
+
+parseV-holds : Says (parse 1000 kindsV (accepted 17))
+unfolding run turn leaf inner grown body lit marked cell cells zeros choose reference spoken
+parseV-holds = parse-says 40 1000 kindsV (accepted 17) refl refl refl refl
+
+-- parse leaves the trees of U and V, with any new tokens
+startU : (new : List ℕ) → spoken new ≡ true → Setting treeU new
+startU = parsed-setting (parseU-holds .2 (parseU-holds .0))
+
+startV : (new : List ℕ) → spoken new ≡ true → Setting treeV new
+startV = parsed-setting (parseV-holds .2 (parseV-holds .0))
+
+pub row-says : (r : Row) (olds : List Cell) → Setting (r .old) (r .inserted) → Found r olds → Says (edit r)
+row-says r olds x found = (x, edit-says r olds found)
 
 pub exampleH-holds : Says (edit exampleH)
 unfolding body choose reference spelled noded planted facts held matches source full void was seek orElse starts stands slotOf slotsOf grows among filled gives givenUp below spoken
-exampleH-holds = row-says exampleH treeV (λ w u. refl) (omega arith) (omega arith) refl
+exampleH-holds = row-says exampleH nodesV (startV [] refl) (λ w u. refl)
 
-exampleK-holds : Says (edit exampleK)
+-- and H leaves its own
+pub startH : (new : List ℕ) → spoken new ≡ true → Setting treeH new
+startH new e =
+    let m : Remade exampleH (exampleH-holds .0) = exampleH-holds .1 (exampleH-holds .0) in
+    let work : List ℕ = zeros (workAreas * length (m .bytes)) in
+    let l = length-zeros (workAreas * length (m .bytes)) in
+    left-setting m work (m .area) (kinds-spelled new []) (spelled-sentence new e) (omega (arith, l))
+
+pub afterH-holds : Says (edit afterH)
 unfolding body choose reference spelled noded planted facts held matches source full void was seek orElse starts stands slotOf slotsOf grows among filled gives givenUp below spoken
-exampleK-holds = row-says exampleK treeU (λ w u. refl) (omega arith) (omega arith) refl
+afterH-holds = row-says afterH nodesH (startH kindsU refl) (λ w u. refl)
 
-pub exampleJ-holds : Says (refusal 1000 kindsV 2 2 [] (Syntax 2 56))
-unfolding run turn leaf inner grown body lit marked cell cells zeros choose reference
-exampleJ-holds = (exampleH-holds .0, syntax-says 20 1000 2 2 2 56 kindsV [] (omega arith) refl)
+pub exampleJ-holds : Says (refusal treeV 2 2 [] (Syntax 2 56))
+unfolding run turn leaf inner grown body lit marked cell cells zeros choose reference spoken
+exampleJ-holds = (startV [] refl, syntax-says 20 treeV 2 2 2 56 [] (omega arith) refl)
 
-beyond-holds : Says (refusal 1000 kindsU 3 1 [] (BeyondTokens 3))
-beyond-holds = (exampleK-holds .0, beyond-says 1000 3 1 kindsU [] (omega arith))
+beyond-holds : Says (refusal treeU 3 1 [] (BeyondTokens 3))
+unfolding spoken
+beyond-holds = (startU [] refl, beyond-says treeU 3 1 [] (omega arith))
 
 -- every example holds
 pub examples-hold : Each Says examples
@@ -323,10 +376,11 @@ examples-hold =
     (Each.cons (parse-says 20 _ _ _ refl refl refl refl)
     (Each.cons (parse-says 20 _ _ _ refl refl refl refl)
     (Each.cons (parse-says 20 _ _ _ refl refl refl refl)
-    (Each.cons (parse-says 40 _ _ _ refl refl refl refl)
-    (Each.cons (row-says exampleG treeU (λ w u. refl) (omega arith) (omega arith) refl)
+    (Each.cons parseV-holds
+    (Each.cons (row-says exampleG nodesU (startU (4 ∷ 2 ∷ []) refl) (λ w u. refl))
     (Each.cons exampleH-holds
-    (Each.cons (row-says exampleI treeV (λ w u. refl) (omega arith) (omega arith) refl)
+    (Each.cons afterH-holds
+    (Each.cons (row-says exampleI nodesV (startV (3 ∷ []) refl) (λ w u. refl))
     (Each.cons exampleJ-holds
-    (Each.cons exampleK-holds
-    (Each.cons beyond-holds Each.nil))))))))))))))))))
+    (Each.cons (row-says exampleK nodesU (startU [] refl) (λ w u. refl))
+    (Each.cons beyond-holds Each.nil)))))))))))))))))))

@@ -11,7 +11,8 @@ pub mod Alter
 -- Trees with right slots and tags have an area, and accepted sentences such a tree.
 pub mod Laid
 pub mod Ordered
--- Edits of trees that parse leaves, and calls of parse, as rows of the table.
+-- Edits and calls of parse as rows of the table.
+pub mod EditRows
 pub mod Edits
 pub mod Calls
 -- The table of examples, and poor programs that the contract rules out.
