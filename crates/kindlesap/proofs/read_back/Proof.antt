@@ -1,6 +1,3 @@
-use borrow.Author.Needs.{needs}
-use Rattle.kindlesap.proofs.read_back.Statement.{statement}
-use Rattle.kindlesap.proofs.read_back.Tie as tie
 use mathlib.Core.Path.{refl}
 use Rattle.base.specs.Blocks.{zeros}
 use Rattle.grammar.specs.Rows.{start-small}
@@ -8,16 +5,22 @@ use Rattle.altering.specs.Treed.{treed, untreed, treed-few, treed-fits}
 use Rattle.kindlesap.specs.GrammarChecks.{checked-fit}
 use Rattle.kindlesap.specs.AreaChecks.{area-wrong}
 use Rattle.kindlesap.specs.ReadBackChecks.{read-3, read-5, read-none, read-11, read-done, tokens-fit}
+use borrow.Author.Needs.{needs}
+use Rattle.kindlesap.proofs.read_back.Statement.{statement}
+use Rattle.kindlesap.proofs.read_back.Tie as tie
 
 -- from each check back to the one before it
-abbrev to-head : tie.After-slots-of → tie.After-head
-to-head c = c .before .before
-
 abbrev to-check-grammar : tie.After-head → tie.After-check-grammar
 to-check-grammar c = c .before .before .before .before
 
 abbrev to-slots-of : tie.After-read-tree → tie.After-slots-of
 to-slots-of c = c .before .before .before .before
+
+abbrev to-read-tree : tie.After-get16 → tie.After-read-tree
+to-read-tree c = c .before .before .before .before .before
+
+abbrev to-get16 : tie.After-give-out → tie.After-get16
+to-get16 c = c .before .before .before .before
 
 slice-aggregate-check-grammar : tie.Need-slice-aggregate-check-grammar
 slice-aggregate-check-grammar c = search needs
@@ -36,13 +39,19 @@ enum-known-reason : tie.Need-enum-known-reason
 enum-known-reason c = search needs
 
 returns : tie.Need-returns
-returns c = read-3 _ _ _ (c .before .before .before .before .before .check-grammar .ensures .0) (c .before .reason .given .1)
+returns c =
+    let g = c .before .before .before .before .before in
+    read-3 _ _ _ (g .check-grammar .ensures .0) (c .before .reason .given .1)
 
 slots-of-requires : tie.Need-slots-of-requires
 slots-of-requires c κs = search needs
 
 returns-2 : tie.Need-returns-2
-returns-2 c = read-5 _ _ (checked-fit _ (to-check-grammar (to-head (c .before)) .check-grammar .ensures .0) (to-head (c .before) .head .given .1)) _ _ (area-wrong (c .before .slots-of .ensures) (search needs))
+returns-2 c =
+    let s = c .before in
+    let q = s .before .before in
+    let g = to-check-grammar q in
+    read-5 _ _ (checked-fit _ (g .check-grammar .ensures .0) (q .head .given .1)) _ _ (area-wrong (s .slots-of .ensures) (search needs))
 
 slice-aggregate-read-tree : tie.Need-slice-aggregate-read-tree
 slice-aggregate-read-tree c = search needs
@@ -51,7 +60,14 @@ slice-aggregate-read-tree-2 : tie.Need-slice-aggregate-read-tree-2
 slice-aggregate-read-tree-2 c = search needs
 
 read-tree-requires : tie.Need-read-tree-requires
-read-tree-requires c κs = let f = checked-fit _ (to-check-grammar (to-head (c .before .before .before)) .check-grammar .ensures .0) (to-head (c .before .before .before) .head .given .1) in let z = c .before .before .before .slots-of .ensures .right (c .before .before .if1 .left) in let u = z .few in (z .some, z .few, z .long, search needs, start-small _ _ (f .prepared .formed))
+read-tree-requires c κs =
+    let s = c .before .before .before in
+    let q = s .before .before in
+    let g = to-check-grammar q in
+    let f = checked-fit _ (g .check-grammar .ensures .0) (q .head .given .1) in
+    let z = s .slots-of .ensures .right (c .before .before .if1 .left) in
+    let u = z .few in
+    (z .some, z .few, z .long, search needs, start-small _ _ (f .prepared .formed))
 
 enum-known-o : tie.Need-enum-known-o
 enum-known-o c = search needs
@@ -60,7 +76,12 @@ enum-told : tie.Need-enum-told
 enum-told c = search needs
 
 returns-3 : tie.Need-returns-3
-returns-3 c = read-none _ _ (checked-fit _ (to-check-grammar (to-head (to-slots-of (c .before .before .before))) .check-grammar .ensures .0) (to-head (to-slots-of (c .before .before .before)) .head .given .1)) _ _ _ (to-slots-of (c .before .before .before) .slots-of .ensures .right (c .before .before .before .before .before .before .if1 .left)) (untreed (c .before .before .before .read-tree .ensures) (c .enum-told .given .1))
+returns-3 c =
+    let w = c .before .before .before in
+    let s = to-slots-of w in
+    let q = s .before .before in
+    let g = to-check-grammar q in
+    read-none _ _ (checked-fit _ (g .check-grammar .ensures .0) (q .head .given .1)) _ _ _ (s .slots-of .ensures .right (w .before .before .before .if1 .left)) (untreed (w .read-tree .ensures) (c .enum-told .given .1))
 
 get16-requires : tie.Need-get16-requires
 get16-requires c κs = search needs
@@ -69,25 +90,60 @@ mul-need : tie.Need-mul-need
 mul-need c = search needs
 
 returns-4 : tie.Need-returns-4
-returns-4 c = let h = treed _ (c .before .before .before .before .before .before .read-tree .ensures) (c .before .before .before .o .given .1) in read-11 _ _ (checked-fit _ (to-check-grammar (to-head (to-slots-of (c .before .before .before .before .before .before))) .check-grammar .ensures .0) (to-head (to-slots-of (c .before .before .before .before .before .before)) .head .given .1)) _ _ _ _ _ h _ (c .before .get16 .ensures .0) _ (search needs) (search needs)
+returns-4 c =
+    let t = c .before in
+    let w = to-read-tree t in
+    let s = to-slots-of w in
+    let q = s .before .before in
+    let g = to-check-grammar q in
+    let h = treed _ (w .read-tree .ensures) (t .before .before .o .given .1) in
+    read-11 _ _ (checked-fit _ (g .check-grammar .ensures .0) (q .head .given .1)) _ _ _ _ _ h _ (t .get16 .ensures .0) _ (search needs) (search needs)
 
 slice-aggregate-give-out : tie.Need-slice-aggregate-give-out
 slice-aggregate-give-out c = search needs
 
 mul-give-out : tie.Need-mul-give-out
-mul-give-out c = let z = to-slots-of (c .before .before .before .before .before .before .before) .slots-of .ensures .right (c .before .before .before .before .before .before .before .before .before .before .if1 .left) in let u = z .few in search needs
+mul-give-out c =
+    let t = c .before .before in
+    let w = to-read-tree t in
+    let s = to-slots-of w in
+    let z = s .slots-of .ensures .right (w .before .before .before .if1 .left) in
+    let u = z .few in
+    search needs
 
 give-out-requires : tie.Need-give-out-requires
-give-out-requires c κs = let h = treed _ (c .before .before .before .before .before .before .before .before .read-tree .ensures) (c .before .before .before .before .before .o .given .1) in let f = treed-fits _ _ _ _ _ _ h in let k = tokens-fit _ _ _ _ _ _ _ h (c .before .before .before .get16 .ensures .0) in let z = to-slots-of (c .before .before .before .before .before .before .before .before) .slots-of .ensures .right (c .before .before .before .before .before .before .before .before .before .before .before .if1 .left) in let u = z .few in search needs
+give-out-requires c κs =
+    let t = c .before .before .before in
+    let w = to-read-tree t in
+    let s = to-slots-of w in
+    let h = treed _ (w .read-tree .ensures) (t .before .before .o .given .1) in
+    let f = treed-fits _ _ _ _ _ _ h in
+    let k = tokens-fit _ _ _ _ _ _ _ h (t .get16 .ensures .0) in
+    let z = s .slots-of .ensures .right (w .before .before .before .if1 .left) in
+    let u = z .few in
+    search needs
 
 cast-t40 : tie.Need-cast-t40
-cast-t40 c = let f = treed-few _ _ _ _ _ _ (treed _ (c .before .before .before .before .before .before .before .before .before .before .before .before .read-tree .ensures) (c .before .before .before .before .before .before .before .before .before .o .given .1)) in search needs
+cast-t40 c =
+    let r = c .before .before .before in
+    let t = to-get16 r in
+    let w = to-read-tree t in
+    let f = treed-few _ _ _ _ _ _ (treed _ (w .read-tree .ensures) (t .before .before .o .given .1)) in
+    search needs
 
 same-length : tie.Need-same-length
 same-length c = search needs
 
 returns-5 : tie.Need-returns-5
-returns-5 c = let h = treed _ (c .before .before .before .before .before .before .before .before .before .before .before .before .read-tree .ensures) (c .before .before .before .before .before .before .before .before .before .o .given .1) in read-done _ _ (checked-fit _ (to-check-grammar (to-head (to-slots-of (c .before .before .before .before .before .before .before .before .before .before .before .before))) .check-grammar .ensures .0) (to-head (to-slots-of (c .before .before .before .before .before .before .before .before .before .before .before .before)) .head .given .1)) _ _ _ _ _ h _ (c .before .before .before .before .before .before .before .get16 .ensures .0) _ _ _ (search needs) (c .before .before .before .give-out .ensures)
+returns-5 c =
+    let r = c .before .before .before in
+    let t = to-get16 r in
+    let w = to-read-tree t in
+    let s = to-slots-of w in
+    let q = s .before .before in
+    let g = to-check-grammar q in
+    let h = treed _ (w .read-tree .ensures) (t .before .before .o .given .1) in
+    read-done _ _ (checked-fit _ (g .check-grammar .ensures .0) (q .head .given .1)) _ _ _ _ _ h _ (t .get16 .ensures .0) _ _ _ (search needs) (r .give-out .ensures)
 
 pub read-back-spec : {M : Type 1} → statement M
 read-back-spec =

@@ -1,6 +1,3 @@
-use borrow.Author.Needs.{needs}
-use Rattle.kindlesap.proofs.call_parse.parse_checked.Statement.{statement}
-use Rattle.kindlesap.proofs.call_parse.parse_checked.Tie as tie
 use mathlib.Core.Path.{refl}
 use Rattle.base.specs.Blocks.{zeros}
 use borrow.Author.Tests.{not-true, not-false}
@@ -8,6 +5,9 @@ use Rattle.grammar.specs.Rows.{grammarIn}
 use Rattle.kindlesap.specs.GrammarChecks.{checked-ready, checked-fit}
 use Rattle.kindlesap.specs.AreaChecks.{area-wrong}
 use Rattle.kindlesap.specs.ParseChecks.{parse-3, parse-4, parse-5, parse-6, parse-7, parse-rest, grounded}
+use borrow.Author.Needs.{needs}
+use Rattle.kindlesap.proofs.call_parse.parse_checked.Statement.{statement}
+use Rattle.kindlesap.proofs.call_parse.parse_checked.Tie as tie
 
 -- from each check back to the one before it
 abbrev to-check-grammar : tie.After-head → tie.After-check-grammar
@@ -16,11 +16,11 @@ to-check-grammar c = c .before .before .before .before
 abbrev to-head : tie.After-is-prepared → tie.After-head
 to-head c = c .before .before .before .before .before
 
-abbrev to-is-prepared : tie.After-slots-of → tie.After-is-prepared
-to-is-prepared c = c .before .before
-
 abbrev to-slots-of : tie.After-read-tokens → tie.After-slots-of
 to-slots-of c = c .before .before .before
+
+abbrev to-read-tokens : tie.After-store → tie.After-read-tokens
+to-read-tokens c = c .before .before .before .before .before .before .before
 
 slice-aggregate-check-grammar : tie.Need-slice-aggregate-check-grammar
 slice-aggregate-check-grammar c = search needs
@@ -39,7 +39,9 @@ enum-known-reason : tie.Need-enum-known-reason
 enum-known-reason c = search needs
 
 returns : tie.Need-returns
-returns c = parse-3 _ _ _ _ _ _ (c .before .before .before .before .before .check-grammar .ensures .0) (c .before .reason .given .1)
+returns c =
+    let g = c .before .before .before .before .before in
+    parse-3 _ _ _ _ _ _ (g .check-grammar .ensures .0) (c .before .reason .given .1)
 
 slice-aggregate-is-prepared : tie.Need-slice-aggregate-is-prepared
 slice-aggregate-is-prepared c = search needs
@@ -51,22 +53,47 @@ slice-aggregate-is-prepared-3 : tie.Need-slice-aggregate-is-prepared-3
 slice-aggregate-is-prepared-3 c = search needs
 
 is-prepared-requires : tie.Need-is-prepared-requires
-is-prepared-requires c κs = checked-ready _ (to-check-grammar (c .before .before .before .before) .check-grammar .ensures .0) (c .before .before .before .before .head .given .1)
+is-prepared-requires c κs =
+    let q = c .before .before .before .before in
+    let g = to-check-grammar q in
+    checked-ready _ (g .check-grammar .ensures .0) (q .head .given .1)
 
 returns-2 : tie.Need-returns-2
-returns-2 c = let f = checked-fit _ (to-check-grammar (to-head (c .before)) .check-grammar .ensures .0) (to-head (c .before) .head .given .1) in parse-4 f _ _ _ _ _ (c .before .is-prepared .ensures .no (not-true _ (c .if1 .taken)))
+returns-2 c =
+    let p = c .before in
+    let q = to-head p in
+    let g = to-check-grammar q in
+    let f = checked-fit _ (g .check-grammar .ensures .0) (q .head .given .1) in
+    parse-4 f _ _ _ _ _ (p .is-prepared .ensures .no (not-true _ (c .if1 .taken)))
 
 slots-of-requires : tie.Need-slots-of-requires
 slots-of-requires c κs = search needs
 
 returns-3 : tie.Need-returns-3
-returns-3 c = let f = checked-fit _ (to-check-grammar (to-head (to-is-prepared (c .before))) .check-grammar .ensures .0) (to-head (to-is-prepared (c .before)) .head .given .1) in parse-5 f _ _ _ _ _ (to-is-prepared (c .before) .is-prepared .ensures .yes (not-false _ (c .before .before .if1 .left))) (area-wrong (c .before .slots-of .ensures) (search needs))
+returns-3 c =
+    let s = c .before in
+    let p = s .before .before in
+    let q = to-head p in
+    let g = to-check-grammar q in
+    let f = checked-fit _ (g .check-grammar .ensures .0) (q .head .given .1) in
+    parse-5 f _ _ _ _ _ (p .is-prepared .ensures .yes (not-false _ (s .before .if1 .left))) (area-wrong (s .slots-of .ensures) (search needs))
 
 mul-need : tie.Need-mul-need
-mul-need c = let z = c .before .slots-of .ensures .right (c .if2 .left) in let u = z .few in let v = z .long in search needs
+mul-need c =
+    let s = c .before in
+    let z = s .slots-of .ensures .right (c .if2 .left) in
+    let u = z .few in
+    let v = z .long in
+    search needs
 
 returns-4 : tie.Need-returns-4
-returns-4 c = let f = checked-fit _ (to-check-grammar (to-head (to-is-prepared (c .before .before))) .check-grammar .ensures .0) (to-head (to-is-prepared (c .before .before)) .head .given .1) in parse-6 f _ _ _ _ _ (to-is-prepared (c .before .before) .is-prepared .ensures .yes (not-false _ (c .before .before .before .if1 .left))) _ (c .before .before .slots-of .ensures .right (c .before .if2 .left)) _ (search needs) (search needs)
+returns-4 c =
+    let s = c .before .before in
+    let p = s .before .before in
+    let q = to-head p in
+    let g = to-check-grammar q in
+    let f = checked-fit _ (g .check-grammar .ensures .0) (q .head .given .1) in
+    parse-6 f _ _ _ _ _ (p .is-prepared .ensures .yes (not-false _ (s .before .if1 .left))) _ (s .slots-of .ensures .right (c .before .if2 .left)) _ (search needs) (search needs)
 
 read-tokens-requires : tie.Need-read-tokens-requires
 read-tokens-requires c κs = search needs
@@ -79,13 +106,27 @@ enum-known-bad c = search needs
 
 returns-5 : tie.Need-returns-5
 unfolding grammarIn
-returns-5 c = let f = checked-fit _ (to-check-grammar (to-head (to-is-prepared (to-slots-of (c .before .before .before)))) .check-grammar .ensures .0) (to-head (to-is-prepared (to-slots-of (c .before .before .before))) .head .given .1) in parse-7 f _ _ _ _ _ (to-is-prepared (to-slots-of (c .before .before .before)) .is-prepared .ensures .yes (not-false _ (to-slots-of (c .before .before .before) .before .if1 .left))) _ (to-slots-of (c .before .before .before) .slots-of .ensures .right (c .before .before .before .before .before .if2 .left)) (search needs) _ (c .before .before .before .read-tokens .ensures) (c .before .bad .given .1)
+returns-5 c =
+    let m = c .before .before .before in
+    let s = to-slots-of m in
+    let p = s .before .before in
+    let q = to-head p in
+    let g = to-check-grammar q in
+    let f = checked-fit _ (g .check-grammar .ensures .0) (q .head .given .1) in
+    parse-7 f _ _ _ _ _ (p .is-prepared .ensures .yes (not-false _ (s .before .if1 .left))) _ (s .slots-of .ensures .right (m .before .before .if2 .left)) (search needs) _ (m .read-tokens .ensures) (c .before .bad .given .1)
 
 slice-aggregate-store : tie.Need-slice-aggregate-store
 slice-aggregate-store c = search needs
 
 store-requires : tie.Need-store-requires
-store-requires c κs = let f = checked-fit _ (to-check-grammar (to-head (to-is-prepared (to-slots-of (c .before .before .before .before .before .before)))) .check-grammar .ensures .0) (to-head (to-is-prepared (to-slots-of (c .before .before .before .before .before .before))) .head .given .1) in (grounded _ _ _ _ _ (f .prepared) (to-is-prepared (to-slots-of (c .before .before .before .before .before .before)) .is-prepared .ensures .yes (not-false _ (to-slots-of (c .before .before .before .before .before .before) .before .if1 .left))) (c .before .before .before .before .before .before .read-tokens .ensures) (c .before .before .before .before .m .given .1), to-slots-of (c .before .before .before .before .before .before) .slots-of .ensures .right (c .before .before .before .before .before .before .before .before .if2 .left), search needs)
+store-requires c κs =
+    let m = c .before .before .before .before .before .before in
+    let s = to-slots-of m in
+    let p = s .before .before in
+    let q = to-head p in
+    let g = to-check-grammar q in
+    let f = checked-fit _ (g .check-grammar .ensures .0) (q .head .given .1) in
+    (grounded _ _ _ _ _ (f .prepared) (p .is-prepared .ensures .yes (not-false _ (s .before .if1 .left))) (m .read-tokens .ensures) (c .before .before .before .before .m .given .1), s .slots-of .ensures .right (m .before .before .if2 .left), search needs)
 
 same-length : tie.Need-same-length
 same-length c = search needs
@@ -95,7 +136,15 @@ same-length-2 c = search needs
 
 returns-6 : tie.Need-returns-6
 unfolding grammarIn
-returns-6 c = let f = checked-fit _ (to-check-grammar (to-head (to-is-prepared (to-slots-of (c .before .before .before .before .before .before .before .before .before .before .before)))) .check-grammar .ensures .0) (to-head (to-is-prepared (to-slots-of (c .before .before .before .before .before .before .before .before .before .before .before))) .head .given .1) in parse-rest f _ _ _ _ _ (to-is-prepared (to-slots-of (c .before .before .before .before .before .before .before .before .before .before .before)) .is-prepared .ensures .yes (not-false _ (to-slots-of (c .before .before .before .before .before .before .before .before .before .before .before) .before .if1 .left))) _ (to-slots-of (c .before .before .before .before .before .before .before .before .before .before .before) .slots-of .ensures .right (c .before .before .before .before .before .before .before .before .before .before .before .before .before .if2 .left)) (search needs) _ (c .before .before .before .before .before .before .before .before .before .before .before .read-tokens .ensures) (c .before .before .before .before .before .before .before .before .before .m .given .1) _ _ (c .before .before .before .before .store .ensures)
+returns-6 c =
+    let r = c .before .before .before .before in
+    let m = to-read-tokens r in
+    let s = to-slots-of m in
+    let p = s .before .before in
+    let q = to-head p in
+    let g = to-check-grammar q in
+    let f = checked-fit _ (g .check-grammar .ensures .0) (q .head .given .1) in
+    parse-rest f _ _ _ _ _ (p .is-prepared .ensures .yes (not-false _ (s .before .if1 .left))) _ (s .slots-of .ensures .right (m .before .before .if2 .left)) (search needs) _ (m .read-tokens .ensures) (r .before .before .before .before .before .m .given .1) _ _ (r .store .ensures)
 
 pub parse-checked-spec : {M : Type 1} → statement M
 parse-checked-spec =
