@@ -1,4 +1,5 @@
-# `make run` proves and builds what it shows, and so does `make example`, a C program; `make test` is the whole gate; `make bench` measures.
+# `make run` proves and builds what it shows, and so does `make example`, a C program; `make test` is the whole gate; `make bench` measures,
+# with OLD=FILE also against an older build of the library, that libkindlesap.a.
 .PHONY: run example test bench clean
 
 run:

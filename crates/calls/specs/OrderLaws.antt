@@ -1,7 +1,7 @@
 -- Laws of every call: no second outcome; a refusal leaves every lent buffer; the work area is zero; what an accepted call has passed.
 use Prim.Native.Nat.{ℕ, _≤_}
 use mathlib.Core.Path.{_≡_, refl, sym, ap, _∙_, subst}
-use mathlib.Core.List.{List}
+use mathlib.Core.List.{List, []}
 use lib.ListN.{length}
 use native.Mathlib.Omega.{arith}
 use Rattle.base.specs.Blocks.{copied, zeros}
@@ -56,6 +56,12 @@ module _ {B : Type 0} (call : Call B) (settled : Settled call) {before : B} {wor
   called-one {slice} h k =
       let e = ends-one (h .ends) (k .ends) in
       (e .1, e .2, h .written ∙ ap (λ (r : Reply). copied slice 0 (replyBytes r)) (e .0) ∙ sym (k .written))
+
+-- a call that is lent no work area
+pub called-without : {B : Type 0} (call : Call B) (before : B) (slice : List ℕ) (after : B) (slice' : List ℕ) (r : Reply) → Outcome call before r after → slice' ≡ copied slice 0 (replyBytes r)
+    → Called call before [] slice after [] slice'
+unfolding zeros
+called-without call before slice after slice' r o e = record { reply = r; ends = record { outcome = o; cleared = refl }; written = e }
 
 -- ---- refusals
 

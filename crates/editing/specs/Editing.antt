@@ -37,31 +37,31 @@ tells-tree n h e = tells-yes (treed n h e .valid)
 pub tells-none : {G : Grammar} {S : ℕ} {b w : List ℕ} {r : Walked} → Reads G S b w r → r ≡ Walked.NoTree → Tells (Valid G S b) false
 tells-none h e = tells-no (untreed h e)
 
--- the area is a valid tree or not; if it is, its nodes are listed in the work area, or that is too short
-pub data Finds (G : Grammar) (S : ℕ) (tree work : List ℕ) : OldTree → Type 0 where
-  finds-tree : {o : ℕ} → Treed G S tree work o → workAreas * length tree ≤ length work → Finds G S tree work (OldTree.Tree o)
-  finds-none : (Valid G S tree → ⊥) → Finds G S tree work OldTree.NoTree
-  finds-short : Valid G S tree → length work < workAreas * length tree → Finds G S tree work OldTree.ShortWork
+-- the area is a valid tree or not; if it is, its nodes are listed in the work area, which had `room` bytes, or that is too short
+pub data Finds (G : Grammar) (S : ℕ) (tree : List ℕ) (room : ℕ) (work : List ℕ) : OldTree → Type 0 where
+  finds-tree : {o : ℕ} → Treed G S tree work o → workAreas * length tree ≤ room → room ≡ length work → Finds G S tree room work (OldTree.Tree o)
+  finds-none : (Valid G S tree → ⊥) → Finds G S tree room work OldTree.NoTree
+  finds-short : Valid G S tree → room < workAreas * length tree → Finds G S tree room work OldTree.ShortWork
 
-module _ {G : Grammar} {S : ℕ} {tree work : List ℕ} where
-  pub walk-tree : {r : Walked} (o : ℕ) → Reads G S tree work r → r ≡ Walked.Tree o → workAreas * length tree ≤ length work → Finds G S tree work (OldTree.Tree o)
-  walk-tree o h e l = finds-tree (treed o h e) l
+module _ {G : Grammar} {S : ℕ} {tree : List ℕ} {room : ℕ} {work : List ℕ} where
+  pub walk-tree : {r : Walked} (o : ℕ) → Reads G S tree work r → r ≡ Walked.Tree o → workAreas * length tree ≤ room → room ≡ length work → Finds G S tree room work (OldTree.Tree o)
+  walk-tree o h e l m = finds-tree (treed o h e) l m
 
-  pub walk-none : {r : Walked} → Reads G S tree work r → r ≡ Walked.NoTree → Finds G S tree work OldTree.NoTree
+  pub walk-none : {r : Walked} → Reads G S tree work r → r ≡ Walked.NoTree → Finds G S tree room work OldTree.NoTree
   walk-none h e = finds-none (untreed h e)
 
-  pub found-tree : {r : OldTree} (o : ℕ) → Finds G S tree work r → r ≡ OldTree.Tree o → Treed G S tree work o × (workAreas * length tree ≤ length work)
-  found-tree o (finds-tree {o = p} h l) e = let q : p ≡ o = cc in (rw q at h, l)
+  pub found-tree : {r : OldTree} (o : ℕ) → Finds G S tree room work r → r ≡ OldTree.Tree o → Treed G S tree work o × (workAreas * length tree ≤ room) × (workAreas * length tree ≤ length work)
+  found-tree o (finds-tree {o = p} h l m) e = let q : p ≡ o = cc in (rw q at h, l, omega (arith, l, m))
   found-tree o (finds-none n) e = never (cc)
   found-tree o (finds-short v l) e = never (cc)
 
-  pub found-none : {r : OldTree} → Finds G S tree work r → r ≡ OldTree.NoTree → Valid G S tree → ⊥
-  found-none (finds-tree h l) e = never (cc)
+  pub found-none : {r : OldTree} → Finds G S tree room work r → r ≡ OldTree.NoTree → Valid G S tree → ⊥
+  found-none (finds-tree h l m) e = never (cc)
   found-none (finds-none n) e = n
   found-none (finds-short v l) e = never (cc)
 
-  pub found-short : {r : OldTree} → Finds G S tree work r → r ≡ OldTree.ShortWork → Valid G S tree × (length work < workAreas * length tree)
-  found-short (finds-tree h l) e = never (cc)
+  pub found-short : {r : OldTree} → Finds G S tree room work r → r ≡ OldTree.ShortWork → Valid G S tree × (room < workAreas * length tree)
+  found-short (finds-tree h l m) e = never (cc)
   found-short (finds-none n) e = never (cc)
   found-short (finds-short v l) e = (v, l)
 

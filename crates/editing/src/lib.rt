@@ -43,7 +43,7 @@ pub enum OldTree {
 // Replies 5 and 6 of an area of so many slots.
 pub fn old_tree(tree: &[u8], slots: usize, rows: &[u8], head: Head, work: &mut [u8]) -> OldTree
     requires { ⌜ Sized slots (length (now tree)) × (head .start < symbolSpace) ⌝ }
-    ensures { λ r. ⌜ Finds (grammarIn (now (rows .entry)) head) slots (now (tree .entry)) (now (work .exit)) r ⌝ }
+    ensures { λ r. ⌜ Finds (grammarIn (now (rows .entry)) head) slots (now (tree .entry)) (length (now (work .entry))) (now (work .exit)) r ⌝ }
 {
     if work.len() < trees::WORK_AREAS * tree.len() {
         if is_tree(tree, slots, rows, head) {

@@ -15,12 +15,20 @@ use Rattle.plain.specs.declared.Tokens.{Tokens}
 use Rattle.edits.specs.Keeping.{editOf}
 use Rattle.editing.specs.Editing.{tokens-counted, Renews}
 use Rattle.replies.specs.declared.Reply.{Reply}
+use Rattle.replies.specs.declared.Reason.{Reason}
 use Rattle.replies.specs.declared.Reason.the-variants as reasons
 use Rattle.replies.specs.declared.Reply.the-variants.{Refused}
 use Rattle.calls.specs.Order.{Outcome, refused, passed, exactly, at}
 use Rattle.calls.specs.Checks.{Sized, area}
 use Rattle.calls.specs.Edit.{editWith, editCall}
 use Rattle.calls.specs.CheckLaws.{Fit, validOf, valid-sized, valid-holds, given-passed}
+use Rattle.kindlesap.specs.declared.checks.GrammarChecked.{GrammarChecked}
+use Rattle.kindlesap.specs.GrammarChecks.{Checks, checked-refused}
+
+-- replies 1 to 3
+pub edit-3 : (tables tokens : List ℕ) (place removed room : ℕ) (tree : List ℕ) {image rows s cells : List ℕ} {r : GrammarChecked} (p : Reason) → Checks image rows s cells r → r ≡ GrammarChecked.Unfit p
+    → Outcome (editCall image tables tokens place removed room tree) tree (Refused p) tree
+edit-3 tables tokens place removed room tree p h e = checked-refused (editWith tables tokens place removed room tree) tree p h e
 
 module _ {image : List ℕ} {G : Grammar} (f : Fit image G) (tables tokens : List ℕ) (place removed room : ℕ) (tree : List ℕ) where
   by-3 : {r : Reply} {tree' : List ℕ} → Outcome (editWith tables tokens place removed room tree G) tree r tree' → Outcome (editCall image tables tokens place removed room tree) tree r tree'

@@ -5,12 +5,13 @@ use mathlib.Core.List.{List}
 use lib.ListN.{length}
 use native.Mathlib.Omega.{arith}
 use Rattle.base.specs.Choose.{never}
+use Rattle.base.specs.Blocks.{length-zeros}
 use Rattle.grammar.specs.Limits.{maxTerminals, maxNonterminals, maxProductions}
 use Rattle.grammar.specs.Grammar.{Grammar, WellFormed}
 use Rattle.grammar.specs.Derivation.{Useless, Lowest}
 use Rattle.grammar.specs.Prediction.{Conflict}
 use Rattle.grammar.specs.Image.{Image}
-use Rattle.grammar.specs.Rows.{symbolSpace, productionsFrom, grammarIn, headOf, rowsOf, rows-grammar, start-small}
+use Rattle.grammar.specs.Rows.{rowsSize, symbolSpace, productionsFrom, grammarIn, headOf, rowsOf, rows-grammar, start-small}
 use Rattle.grammar.specs.Outcome.{Reads, reads-good, reads-bad}
 use Rattle.grammar.specs.declared.Head.{Head}
 use Rattle.grammar.specs.declared.GrammarRead.{GrammarRead}
@@ -99,6 +100,14 @@ module _ (image rows : List ℕ) (r : GrammarRead) (x : Reads image r rows) wher
       go (reads-good G i) e = never (cc)
       go (reads-bad {k = j} b) e = let q : j ≡ k = cc in unfit (bad-image (rw q at b))
 
+  -- the rows are zeros then
+  pub bad-sized : (k : ℕ) → r ≡ GrammarRead.Bad k → length rows ≡ rowsSize
+  bad-sized k e = go x e
+    where
+      go : {r : GrammarRead} {v : List ℕ} → Reads image r v → r ≡ GrammarRead.Bad k → length v ≡ rowsSize
+      go (reads-good G i) e = never (cc)
+      go (reads-bad b) e = length-zeros rowsSize
+
 -- ---- from the check's answer
 
 module _ {image rows s cells : List ℕ} where
@@ -107,7 +116,10 @@ module _ {image rows s cells : List ℕ} where
   checked-ready h (unfit u) e = never (cc)
 
   pub checked-fit : {r : GrammarChecked} (h : Head) → Checks image rows s cells r → r ≡ GrammarChecked.Fit h → Fit image (grammarIn rows h)
-  checked-fit h (fits {h = k} i y) e = let q : k ≡ h = cc in rw q at (record { reads = i; prepared = y .prepared })
+  checked-fit h (fits {h = k} i y) e =
+      let q : k ≡ h = cc in
+      let f : Fit image (grammarIn rows k) = record { reads = i; prepared = y .prepared } in
+      rw q at f
   checked-fit h (unfit u) e = never (cc)
 
   -- a call refuses with the check's reason

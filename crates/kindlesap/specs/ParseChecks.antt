@@ -24,12 +24,15 @@ use Rattle.plain.specs.declared.Parsed.{Parsed}
 use Rattle.plain.specs.declared.Tokens.{Tokens}
 use Rattle.altering.specs.Treed.{arity-rows}
 use Rattle.replies.specs.declared.Reply.{Reply}
+use Rattle.replies.specs.declared.Reason.{Reason}
 use Rattle.replies.specs.declared.Reason.the-variants as reasons
 use Rattle.replies.specs.declared.Reply.the-variants.{Accepted, Refused}
 use Rattle.calls.specs.Order.{Outcome, refused, passed, accepted, exactly, at}
 use Rattle.calls.specs.Checks.{Sized, area, wrong-syntax, no-room}
 use Rattle.calls.specs.Parse.{upFrom, Stored, parseCounts, storeCall, parseWith, parseCall}
 use Rattle.calls.specs.CheckLaws.{Fit, given-passed}
+use Rattle.kindlesap.specs.declared.checks.GrammarChecked.{GrammarChecked}
+use Rattle.kindlesap.specs.GrammarChecks.{Checks, checked-refused}
 
 -- ---- slots 1, 2, ..
 
@@ -111,6 +114,11 @@ pub room-for : (S long room : ℕ) → Sized S long → workAreas * long ≤ roo
 room-for S long room z l = omega (arith, z .long, l)
 
 -- ---- the checks before: each says what the call does where it refuses, and that the rest of the call is the call where it passes
+
+-- replies 1 to 3
+pub parse-3 : (tables tokens : List ℕ) (room long : ℕ) (tree : List ℕ) {image rows s cells : List ℕ} {r : GrammarChecked} (p : Reason) → Checks image rows s cells r → r ≡ GrammarChecked.Unfit p
+    → Outcome (parseCall image tables tokens room long) tree (Refused p) tree
+parse-3 tables tokens room long tree p h e = checked-refused (parseWith tables tokens room long) tree p h e
 
 module _ {image : List ℕ} {G : Grammar} (f : Fit image G) (tables tokens : List ℕ) (room long : ℕ) (tree : List ℕ) where
   by-3 : {r : Reply} {tree' : List ℕ} → Outcome (parseWith tables tokens room long G) tree r tree' → Outcome (parseCall image tables tokens room long) tree r tree'

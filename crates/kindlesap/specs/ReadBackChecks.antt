@@ -18,12 +18,15 @@ use Rattle.sentences.specs.Adding.{Added}
 use Rattle.sentences.specs.Leaves.{leavesFrom, leaves-whole, Gave}
 use Rattle.altering.specs.Treed.{Treed, leaves, treed-fits}
 use Rattle.replies.specs.declared.Reply.{Reply}
+use Rattle.replies.specs.declared.Reason.{Reason}
 use Rattle.replies.specs.declared.Reason.the-variants as reasons
 use Rattle.replies.specs.declared.Reply.the-variants.{Accepted, Refused}
 use Rattle.calls.specs.Order.{Outcome, refused, passed, accepted, exactly}
 use Rattle.calls.specs.Checks.{Sized, area, needed}
 use Rattle.calls.specs.ReadBack.{readCounts, readBackWith, readBackCall}
 use Rattle.calls.specs.CheckLaws.{Fit, validOf, valid-sized, valid-holds, given-passed}
+use Rattle.kindlesap.specs.declared.checks.GrammarChecked.{GrammarChecked}
+use Rattle.kindlesap.specs.GrammarChecks.{Checks, checked-refused}
 
 -- there are no more tokens than slots
 pub tokens-fit : (rows : List ℕ) (head : Head) (S : ℕ) (tree nodes : List ℕ) (o m : ℕ) → Treed (grammarIn rows head) S tree nodes o → m ≡ get16 tree tokensPlace → m ≤ S
@@ -31,6 +34,11 @@ tokens-fit rows head S tree nodes o m h e =
     let l = treed-fits rows head S tree nodes o h in
     let y = valid-header (h .valid) .tokens in
     omega (arith, e, y, l, h .count, few-tokens (h .valid .tree))
+
+-- replies 1 to 3
+pub read-3 : (tree output : List ℕ) {image rows s cells : List ℕ} {r : GrammarChecked} (p : Reason) → Checks image rows s cells r → r ≡ GrammarChecked.Unfit p
+    → Outcome (readBackCall image tree output) output (Refused p) output
+read-3 tree output p h e = checked-refused (readBackWith tree output) output p h e
 
 module _ (rows : List ℕ) (head : Head) {image : List ℕ} (f : Fit image (grammarIn rows head)) (tree output : List ℕ) where
   by-3 : {r : Reply} {output' : List ℕ} → Outcome (readBackWith tree output (grammarIn rows head)) output r output' → Outcome (readBackCall image tree output) output r output'

@@ -48,7 +48,7 @@ pub fn edit_checked(
     // 7
     let m = match plain::read_tokens(tokens, head.t) {
         Tokens::Good(m) => m,
-        Tokens::Bad(record) => return Reply::Refused(Reason::BadToken(record as u64)),
+        Tokens::Bad(bad) => return Reply::Refused(Reason::BadToken(bad as u64)),
     };
     // 8
     let old = base::get16(tree, trees::TOKENS_PLACE);

@@ -81,7 +81,7 @@ pub fn parse_checked(
     // 7
     let m = match plain::read_tokens(tokens, head.t) {
         Tokens::Good(m) => m,
-        Tokens::Bad(record) => return Reply::Refused(Reason::BadToken(record as u64)),
+        Tokens::Bad(bad) => return Reply::Refused(Reason::BadToken(bad as u64)),
     };
     // 9, 10
     store(tokens, m, tables, &rows, head, slots, tree, work)

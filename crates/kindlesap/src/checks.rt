@@ -6,7 +6,7 @@ ghost use mathlib.Core.Path.{_≡_};
 ghost use lib.ListN.{length};
 ghost use Rattle.base.specs.Blocks.{zeros};
 ghost use Rattle.grammar.specs.Grammar.{WellFormed};
-ghost use Rattle.grammar.specs.Rows.{grammarIn};
+ghost use Rattle.grammar.specs.Rows.{rowsSize, grammarIn};
 ghost use Rattle.sets.specs.Words.{setsSize};
 ghost use Rattle.tables.specs.Tables.{predictionsSize};
 ghost use Rattle.kindlesap.specs.GrammarChecks.{Judges, Checks};
@@ -43,7 +43,7 @@ pub fn check_grammar(
     cells: &mut [u8],
 ) -> GrammarChecked
     requires { ⌜ (length (now sets) ≡ setsSize) × (now cells ≡ zeros predictionsSize) ⌝ }
-    ensures { λ r. ⌜ Checks (now (image .entry)) (now (rows .exit)) (now (sets .exit)) (now (cells .exit)) r ⌝ }
+    ensures { λ r. ⌜ Checks (now (image .entry)) (now (rows .exit)) (now (sets .exit)) (now (cells .exit)) r × (length (now (rows .exit)) ≡ rowsSize) ⌝ }
 {
     match grammar::read_grammar(image, rows) {
         GrammarRead::Good(head) => judge(rows, head, sets, cells),

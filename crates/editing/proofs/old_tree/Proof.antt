@@ -28,7 +28,7 @@ same-length : tie.Need-same-length
 same-length c = search needs
 
 returns-3 : tie.Need-returns-3
-returns-3 c = walk-tree _ (c .before .before .before .before .before .read-tree .ensures) (search needs) (search needs)
+returns-3 c = walk-tree _ (c .before .before .before .before .before .read-tree .ensures) (search needs) (search needs) (search needs)
 
 same-length-2 : tie.Need-same-length-2
 same-length-2 c = search needs

@@ -3,8 +3,8 @@ use Rattle.kindlesap.proofs.edit.Statement.{statement}
 use Rattle.kindlesap.proofs.edit.Tie as tie
 use Rattle.base.specs.Blocks.{zeros-sized}
 
-edit-image-requires : tie.Need-edit-image-requires
-edit-image-requires c κs = search needs
+edit-checked-requires : tie.Need-edit-checked-requires
+edit-checked-requires c κs = search needs
 
 zero-requires : tie.Need-zero-requires
 zero-requires c κs = search needs
@@ -16,8 +16,8 @@ same-length-2 : tie.Need-same-length-2
 same-length-2 c = search needs
 
 returns : tie.Need-returns
-returns c = record { opened = search needs; cleared = zeros-sized _ _ _ (c .before .before .zero .ensures) (search needs) }
+returns c = record { outcome = search needs; cleared = zeros-sized _ _ _ (c .before .before .zero .ensures) (search needs) }
 
 pub edit-spec : {M : Type 1} → statement M
 edit-spec =
-    tie.close (tie.spec edit-image-requires zero-requires same-length same-length-2 returns)
+    tie.close (tie.spec edit-checked-requires zero-requires same-length same-length-2 returns)

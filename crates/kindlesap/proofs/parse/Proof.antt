@@ -3,8 +3,8 @@ use borrow.Author.Needs.{needs}
 use Rattle.kindlesap.proofs.parse.Statement.{statement}
 use Rattle.kindlesap.proofs.parse.Tie as tie
 
-parse-image-requires : tie.Need-parse-image-requires
-parse-image-requires c κs = search needs
+parse-checked-requires : tie.Need-parse-checked-requires
+parse-checked-requires c κs = search needs
 
 zero-requires : tie.Need-zero-requires
 zero-requires c κs = search needs
@@ -16,8 +16,8 @@ same-length-2 : tie.Need-same-length-2
 same-length-2 c = search needs
 
 returns : tie.Need-returns
-returns c = record { opened = search needs; cleared = zeros-sized _ _ _ (c .before .before .zero .ensures) (search needs) }
+returns c = record { outcome = search needs; cleared = zeros-sized _ _ _ (c .before .before .zero .ensures) (search needs) }
 
 pub parse-spec : {M : Type 1} → statement M
 parse-spec =
-    tie.close (tie.spec parse-image-requires zero-requires same-length same-length-2 returns)
+    tie.close (tie.spec parse-checked-requires zero-requires same-length same-length-2 returns)

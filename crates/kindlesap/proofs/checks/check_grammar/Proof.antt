@@ -1,4 +1,4 @@
-use Rattle.kindlesap.specs.GrammarChecks.{got-formed, checks-good, checks-bad}
+use Rattle.kindlesap.specs.GrammarChecks.{got-formed, checks-good, checks-bad, bad-sized}
 use borrow.Author.Needs.{needs}
 use Rattle.kindlesap.proofs.checks.check_grammar.Statement.{statement}
 use Rattle.kindlesap.proofs.checks.check_grammar.Tie as tie
@@ -22,10 +22,10 @@ same-length-2 : tie.Need-same-length-2
 same-length-2 c = search needs
 
 returns : tie.Need-returns
-returns c = search (checks-good, needs)
+returns c = (search (checks-good, needs), search needs)
 
 returns-2 : tie.Need-returns-2
-returns-2 c = search (checks-bad, needs)
+returns-2 c = (search (checks-bad, needs), search (bad-sized, needs))
 
 pub check-grammar-spec : {M : Type 1} → statement M
 check-grammar-spec =
