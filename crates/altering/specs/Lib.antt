@@ -7,3 +7,5 @@ pub mod Parts
 -- The ways through the code.
 pub mod Altering
 pub mod Course
+-- Laying out and walking undo each other.
+pub mod LaidWalked

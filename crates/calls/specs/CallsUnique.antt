@@ -1,7 +1,8 @@
--- No second outcome: each call's checks find one thing or refuse with one reason, and one thing only is accepted. `ends-one` and `called-one` then hold of it.
+-- No second outcome: each call's checks find one thing or refuse with one reason, and one thing only is accepted; so each exported call leaves one thing only in every buffer.
 use Prim.Native.Nat.{ℕ, _≤_}
 use mathlib.Core.Path.{_≡_, refl, sym, ap, _∙_, subst}
-use mathlib.Core.List.{List}
+use mathlib.Core.List.{List, []}
+use lib.ListN.{length}
 use Rattle.grammar.specs.Grammar.{Grammar}
 use Rattle.grammar.specs.Prediction.{Prepared}
 use Rattle.grammar.specs.Forest.{Token, Forest, size, yield, Tree}
@@ -15,8 +16,9 @@ use Rattle.plain.specs.Exactly.{accepted-exactly, tree-one}
 use Rattle.edits.specs.Keeping.{Edit, edited, Altered}
 use Rattle.edits.specs.Uniqueness.{altered-one}
 use Rattle.replies.specs.declared.Counts.{Counts}
+use Rattle.calls.specs.Order.{Called}
 use Rattle.calls.specs.Checks.{Holds}
-use Rattle.calls.specs.OrderLaws.{Settled, require-single}
+use Rattle.calls.specs.OrderLaws.{Settled, called-one, require-single}
 use Rattle.calls.specs.CheckLaws.{area-single, tree-single, sentence-single, parsed-single, given-settled}
 use Rattle.calls.specs.Prepare.{prepareWith, prepareCall}
 use Rattle.calls.specs.Parse.{upFrom, Stored, parseCounts, Storage, storeCall, parseWith, parseCall}
@@ -83,3 +85,25 @@ edit-settled image tables tokens place removed room tree =
 pub read-back-settled : (image tree output : List ℕ) → Settled (readBackCall image tree output)
 read-back-settled image tree output =
     given-settled (readBackWith tree output) (λ G g. (area-single, λ S z. (tree-single z, λ f h. (require-single, λ _ l c d v w p q. (p .counts ∙ sym (q .counts), p .bytes ∙ sym (q .bytes))))))
+
+-- ---- the exported calls
+
+module _ {image slice slice' slice'' : List ℕ} where
+  pub prepare-called-one : {tables tables' tables'' : List ℕ} → Called (prepareCall image (length tables)) tables [] slice tables' [] slice'
+      → Called (prepareCall image (length tables)) tables [] slice tables'' [] slice'' → (tables' ≡ tables'') × (slice' ≡ slice'')
+  prepare-called-one {tables} h k = let e = called-one (prepareCall image (length tables)) (prepare-settled image (length tables)) h k in (e .0, e .2)
+
+  pub parse-called-one : {tables tokens tree work tree' tree'' work' work'' : List ℕ} → Called (parseCall image tables tokens (length work) (length tree)) tree work slice tree' work' slice'
+      → Called (parseCall image tables tokens (length work) (length tree)) tree work slice tree'' work'' slice'' → (tree' ≡ tree'') × (work' ≡ work'') × (slice' ≡ slice'')
+  parse-called-one {tables} {tokens} {tree} {work} h k =
+      called-one (parseCall image tables tokens (length work) (length tree)) (parse-settled image tables tokens (length work) (length tree)) h k
+
+  pub edit-called-one : {tables tree tokens work tree' tree'' work' work'' : List ℕ} (place removed : ℕ)
+      → Called (editCall image tables tokens place removed (length work) tree) tree work slice tree' work' slice'
+      → Called (editCall image tables tokens place removed (length work) tree) tree work slice tree'' work'' slice'' → (tree' ≡ tree'') × (work' ≡ work'') × (slice' ≡ slice'')
+  edit-called-one {tables} {tree} {tokens} {work} place removed h k =
+      called-one (editCall image tables tokens place removed (length work) tree) (edit-settled image tables tokens place removed (length work) tree) h k
+
+  pub read-back-called-one : {tree output output' output'' : List ℕ} → Called (readBackCall image tree output) output [] slice output' [] slice'
+      → Called (readBackCall image tree output) output [] slice output'' [] slice'' → (output' ≡ output'') × (slice' ≡ slice'')
+  read-back-called-one {tree} {output} h k = let e = called-one (readBackCall image tree output) (read-back-settled image tree output) h k in (e .0, e .2)

@@ -15,15 +15,15 @@ use Rattle.grammar.specs.Forest.{Token, Forest}
 use Rattle.trees.specs.Area.{headerBytes, slotAt, Area, Valid}
 use Rattle.trees.specs.Slots.{slot-byte}
 use Rattle.walks.specs.Reading.{valid-one}
-use Rattle.plain.specs.Plain.{Verdict, accepted, syntax, noRoom, Parses}
+use Rattle.plain.specs.Plain.{accepted, Parses}
 use Rattle.plain.specs.One.{runs-one}
-use Rattle.plain.specs.Tokens.{Sentence, BadToken, sentence-one, bad-not-sentence, bad-token-one}
+use Rattle.plain.specs.Tokens.{sentence-one, bad-not-sentence, bad-token-one}
 use Rattle.replies.specs.Reply.{numberOf}
 use Rattle.replies.specs.declared.Reason.{Reason}
 use Rattle.replies.specs.declared.Reply.{Reply}
 use Rattle.replies.specs.declared.Reason.the-variants as reasons
 use Rattle.replies.specs.declared.Reply.the-variants.{Refused}
-use Rattle.calls.specs.Order.{Check, Call, Outcome, refused, passed, exactly, at}
+use Rattle.calls.specs.Order.{Call, Outcome, refused, passed, exactly, at}
 use Rattle.calls.specs.OrderLaws.{Single, Settled, find-single, none-single, placed-numbered, placed-one, placed-apart, passes, goes-by}
 use Rattle.calls.specs.Checks.{readable, given, Sized, area, Holds, treeIn, sentence, Rejected, wrong-syntax, no-room, parsed}
 
@@ -108,7 +108,7 @@ module _ {B : Type 0} {image : List ℕ} (next : Grammar → Call B) where
     pub given-passed : {G : Grammar} → Fit image G → Outcome (next G) before r after → Outcome (given image next) before r after
     given-passed f h = passed (f .reads) (passed (f .prepared .useful) (passed (f .prepared .ll1) h))
 
-    -- a call with another reply has such a grammar
+    -- a call whose reply is none of 1 to 3 has such a grammar
     pub given-by : ((k : ℕ) → 1 ≤ k → k ≤ 3 → numberOf r ≡ k → ⊥) → Outcome (given image next) before r after → (G : Grammar) × Fit image G × Outcome (next G) before r after
     given-by n h =
         let (G, i, o) = goes-by (placed-numbered (λ k. refl)) (n 1 (omega arith) (omega arith)) h in

@@ -14,7 +14,7 @@ use Rattle.plain.specs.Plain.{accepted, syntax, noRoom, Parses}
 use Rattle.plain.specs.Tokens.{tokenSize, Sentence, BadToken}
 use Rattle.replies.specs.declared.Reason.{Reason}
 use Rattle.replies.specs.declared.Reason.the-variants as reasons
-use Rattle.calls.specs.Order.{Check, Call, try, _>>=_, _>>_, Placed, require, find, none}
+use Rattle.calls.specs.Order.{Check, Call, _>>=_, _>>_, Placed, require, find, none}
 
 -- ---- replies 1 to 3: the grammar
 
@@ -30,27 +30,27 @@ given image next = do
   none (Conflict G) reasons.NotLl1  -- 3: "not LL(1)"; "lowest nonterminal in conflict"
   next G
 
--- ---- reply 4: the tables, of `size` bytes
+-- ---- reply 4: the tables, of `long` bytes
 
 -- "tables of another length"
 abbrev pub tablesSized : ℕ → Check Unit
-tablesSized size = require (size ≡ tablesSize) reasons.WrongTables
+tablesSized long = require (long ≡ tablesSize) reasons.WrongTables
 
 -- "in parse and edit also not what prepare writes"
 abbrev pub tablesOf : Grammar → List ℕ → Check Unit
 tablesOf G tables = require (Tables G tables) reasons.WrongTables
 
--- ---- reply 5: the tree area, of `size` bytes
+-- ---- reply 5: the tree area, of `long` bytes
 
 -- "16+16S bytes, S from 1 to 1,000"
-pub record Sized (S size : ℕ) : Type 0 where
+pub record Sized (S bytes : ℕ) : Type 0 where
   pub some : 1 ≤ S
   pub few : S ≤ maxSlots
-  pub long : size ≡ areaSize S
+  pub long : bytes ≡ areaSize S
 
 -- "area length wrong"
 abbrev pub area : ℕ → Check ℕ
-area size = find (λ S. Sized S size) reasons.WrongTree
+area long = find (λ S. Sized S long) reasons.WrongTree
 
 -- the area of S slots is that of the derivation tree f
 pub record Holds (G : Grammar) (S : ℕ) (b : List ℕ) (f : Forest) : Type 0 where
@@ -61,11 +61,11 @@ pub record Holds (G : Grammar) (S : ℕ) (b : List ℕ) (f : Forest) : Type 0 wh
 abbrev pub treeIn : Grammar → ℕ → List ℕ → Check Forest
 treeIn G S tree = find (Holds G S tree) reasons.WrongTree
 
--- ---- reply 6: the work area, of `room` bytes, for a tree area of `size` bytes
+-- ---- reply 6: the work area, of `room` bytes, for a tree area of `long` bytes
 
 -- "work shorter than three times the tree area"; "length needed"
 abbrev pub workFor : ℕ → ℕ → Check Unit
-workFor size room = require (workAreas * size ≤ room) (reasons.ShortWork (workAreas * size))
+workFor long room = require (workAreas * long ≤ room) (reasons.ShortWork (workAreas * long))
 
 -- ---- reply 7: the tokens
 
@@ -89,7 +89,7 @@ pub data Rejected (G : Grammar) (S : ℕ) (w : List Token) : Reason → Type 0 w
 abbrev pub parsed : Grammar → ℕ → List Token → Check ℕ
 parsed G S w = record { Pass = λ n. Parses G S w (accepted n); Fail = Rejected G S w }
 
--- ---- reply 11: the output, of `size` bytes
+-- ---- reply 11: the output, of `long` bytes
 
 -- the bytes of a tree's tokens, "5 bytes a token"
 abbrev pub needed : Forest → ℕ
@@ -97,4 +97,4 @@ needed f = tokenSize * length (yield f)
 
 -- "output shorter than 5 bytes a token"; "bytes needed"
 abbrev pub outputFor : Forest → ℕ → Check Unit
-outputFor f size = require (needed f ≤ size) (reasons.ShortOutput (needed f))
+outputFor f long = require (needed f ≤ long) (reasons.ShortOutput (needed f))

@@ -3,44 +3,33 @@ use Prim.Native.Nat.{ℕ, _*_, _≤_}
 use mathlib.Core.Path.{_≡_, refl, sym, ap, _∙_, subst}
 use mathlib.Core.Logic.{_↔_}
 use mathlib.Core.List.{List, []}
-use lib.ListN.{length, take}
+use lib.ListN.{length}
 use native.Mathlib.Omega.{arith}
-use Rattle.base.specs.Bytes.{leBytes}
 use Rattle.grammar.specs.Grammar.{Grammar}
 use Rattle.grammar.specs.Prediction.{Prepared}
 use Rattle.grammar.specs.Image.{Image}
 use Rattle.grammar.specs.Images.{image-one}
-use Rattle.grammar.specs.Forest.{Token, Forest, size, yield}
+use Rattle.grammar.specs.Forest.{Token}
 use Rattle.tables.specs.Tables.{tablesSize, Tables}
 use Rattle.tables.specs.One.{tables-one}
 use Rattle.trees.specs.Area.{workAreas, Valid}
-use Rattle.plain.specs.Plain.{Verdict, accepted, syntax, noRoom, Parses}
+use Rattle.plain.specs.Plain.{Verdict, Parses}
 use Rattle.plain.specs.Exactly.{Fitting}
-use Rattle.plain.specs.Viable.{Longest, place-longest}
+use Rattle.plain.specs.Viable.{Longest}
 use Rattle.plain.specs.Tokens.{Sentence}
 use Rattle.replies.specs.Reply.{wordSize, numberOf}
-use Rattle.replies.specs.ReplyLaws.{number-told}
 use Rattle.replies.specs.declared.Counts.{Counts}
 use Rattle.replies.specs.declared.Reply.{Reply}
 use Rattle.replies.specs.declared.Reason.the-variants as reasons
 use Rattle.replies.specs.declared.Reply.the-variants.{Accepted, Refused}
-use Rattle.calls.specs.Order.{counts, Call, Outcome, Tried, refused, passed, Done, accepted as done, at, exactly, Called}
-use Rattle.calls.specs.Checks.{Sized, wrong-syntax, no-room}
+use Rattle.calls.specs.Order.{counts, Outcome, Called}
+use Rattle.calls.specs.Checks.{Sized}
 use Rattle.calls.specs.Prepare.{prepareWith, prepareCall}
-use Rattle.calls.specs.Parse.{Stored, parseCounts, Storage, storeCall, parseWith, parseCall}
-use Rattle.calls.specs.OrderLaws.{one-outcome, any-before, require-single, exactly-numbered, placed-numbered, passes, goes-by, has-passed, has-counts, is-accepted}
+use Rattle.calls.specs.Parse.{parseCounts, Storage, storeCall, parseWith, parseCall}
+use Rattle.calls.specs.OrderLaws.{SaysZero, zero-exactly, one-outcome, any-before, require-single, exactly-numbered, placed-numbered, passes, goes-by, has-passed, has-counts, is-accepted}
 use Rattle.calls.specs.CheckLaws.{Fit, area-single, sentence-single, given-rest, given-by}
 use Rattle.calls.specs.CallsUnique.{parse-settled, stored-parses}
-use Rattle.calls.specs.Verdicts.{Answers, Answered, answered-exactly, answered-place, answered-fits, answered-zero, parsed-answered, accepted-size}
-
--- number 0 in the first four bytes of the reply's slice
-abbrev pub SaysZero : List ℕ → Type 0
-SaysZero slice = take wordSize slice ≡ leBytes wordSize 0
-
-module _ {B : Type 0} {call : Call B} {before after : B} {work work' slice slice' : List ℕ} where
-  -- what holds exactly of an accepted reply holds exactly of these bytes
-  pub zero-exactly : {P : Type 0} → wordSize ≤ length slice → (h : Called call before work slice after work' slice') → (numberOf (h .reply) ≡ 0) ↔ P → SaysZero slice' ↔ P
-  zero-exactly l h e = let z = number-told slice slice' (h .reply) l (h .written) 0 (omega arith) in (λ x. e .0 (z .0 x), λ p. z .1 (e .1 p))
+use Rattle.calls.specs.Verdicts.{Answers, Decided, by-zero, by-nine, decided-early, Answered, answered-exactly, answered-place, answered-fits, answered-zero, parsed-answered, accepted-size}
 
 -- ---- prepare
 
@@ -53,11 +42,11 @@ module _ {image : List ℕ} {long : ℕ} {tables tables' : List ℕ} {r : Reply}
   prepare-good : numberOf r ≡ 0 → Good image
   prepare-good e = let (G, f, _) = given-by (prepareWith long) (λ k a b x. omega (arith, e, a, x)) h in record { grammar = G; fit = f }
 
-  -- "A grammar is prepared exactly when it is well formed, has no useless nonterminal and is LL(1)"
+  -- demand 2: "A grammar is prepared exactly when it is well formed, has no useless nonterminal and is LL(1)"
   pub prepare-exactly : long ≡ tablesSize → (numberOf r ≡ 0) ↔ Good image
   prepare-exactly l = (prepare-good, λ g. let (c, e, _) = has-counts (passes require-single l (given-rest (prepareWith long) (g .fit) h)) in ap numberOf e)
 
-  -- "its tables are the ones defined": what reply 4 of parse and edit calls the grammar's tables is what prepare writes
+  -- demand 2: "its tables are the ones defined": what reply 4 of parse and edit calls the grammar's tables is what prepare writes
   pub prepare-tables : {G : Grammar} → numberOf r ≡ 0 → Image image G → (b : List ℕ) → Tables G b ↔ (b ≡ tables')
   prepare-tables {G} e i b =
       let g = prepare-good e in
@@ -103,9 +92,10 @@ pub record Stops (image tables tokens : List ℕ) (room long : ℕ) (tree : List
   pub longest : Longest (reached .grammar) (reached .sentence) place
 
 module _ {image tables tokens : List ℕ} {room long : ℕ} {tree : List ℕ} where
-  pub parse-reached : {r : Reply} {tree' : List ℕ} → ((k : ℕ) → 1 ≤ k → k ≤ 7 → numberOf r ≡ k → ⊥) → Outcome (parseCall image tables tokens room long) tree r tree'
+  pub parse-reached : {r : Reply} {tree' : List ℕ} → Decided r → Outcome (parseCall image tables tokens room long) tree r tree'
       → ParseReached image tables tokens room long tree r tree'
-  parse-reached n h =
+  parse-reached d h =
+      let n = decided-early d in
       let (G, f, o) = given-by (parseWith tables tokens room long) (λ k a b. n k a (omega arith)) h in
       let (_, t, o₄) = goes-by exactly-numbered (n 4 (omega arith) (omega arith)) o in
       let (S, z, o₅) = goes-by exactly-numbered (n 5 (omega arith) (omega arith)) o₄ in
@@ -113,17 +103,21 @@ module _ {image tables tokens : List ℕ} {room long : ℕ} {tree : List ℕ} wh
       let (w, s, o₇) = goes-by (placed-numbered (λ k. refl)) (n 7 (omega arith) (omega arith)) o₆ in
       record { grammar = G; fit = f; right = t; slots = S; sized = z; enough = l; sentence = w; spelt = s; last = o₇ }
 
-  -- "that tree is stored"
+  -- an accepted reply holds counts
+  pub parse-accepted : {r : Reply} {tree' : List ℕ} → Outcome (parseCall image tables tokens room long) tree r tree' → numberOf r ≡ 0 → (c : Counts) × (r ≡ Accepted c)
+  parse-accepted h e = let (c, q, _) = has-counts (has-passed e (parse-reached (by-zero e) h .last) .2) in (c, q)
+
+  -- demand 2: "that tree is stored"
   pub parse-stores : (c : Counts) (tree' : List ℕ) → Outcome (parseCall image tables tokens room long) tree (Accepted c) tree' → Stores image tables tokens room long tree c tree'
-  parse-stores c tree' h = let x = parse-reached (λ k a b e. omega arith) h in record { reached = x; storage = store-storage c refl (x .last) }
+  parse-stores c tree' h = let x = parse-reached (by-zero refl) h in record { reached = x; storage = store-storage c refl (x .last) }
 
   -- "With reply 9, its place equals the number of tokens in the longest beginning of the sentence that also begins some sentence of the language"
   pub parse-stops : (i e : ℕ) (tree' : List ℕ) → Outcome (parseCall image tables tokens room long) tree (Refused (reasons.Syntax i e)) tree' → Stops image tables tokens room long tree i e tree'
   parse-stops i e tree' h =
-      let x = parse-reached (λ k a b e. omega arith) h in
+      let x = parse-reached (by-nine refl) h in
       record { reached = x; longest = answered-place (x .fit .prepared) (store-answered (x .fit .prepared) (x .sized .some) (x .last)) i e refl }
 
-  -- "and ignores the area's earlier contents": two areas, whatever they held, end the same
+  -- "and ignores the area's earlier contents": two areas, whatever they held, have the same reply, and where it is accepted the same bytes
   pub parse-ignores : (other : List ℕ) (r s : Reply) (tree' other' : List ℕ) → Outcome (parseCall image tables tokens room long) tree r tree' → Outcome (parseCall image tables tokens room long) other s other'
       → (r ≡ s) × (numberOf r ≡ 0 → tree' ≡ other')
   parse-ignores other r s tree' other' h k =
@@ -150,7 +144,7 @@ module _ {G : Grammar} {S : ℕ} {w : List Token} {image tables tokens : List �
   pub parse-plain : (u : Verdict) → Parses G S w u ↔ Answers u r
   parse-plain = answered-exactly (f .prepared) parse-answered
 
-  -- "A sentence is accepted exactly when it has a derivation tree that fits the slots"
+  -- demand 2: "A sentence is accepted exactly when it has a derivation tree that fits the slots"
   pub parse-exactly : (n : ℕ) → (r ≡ Accepted (parseCounts n)) ↔ Fitting G S w n
   parse-exactly n =
       let (there, back) = answered-fits (f .prepared) (z .some) parse-answered n in

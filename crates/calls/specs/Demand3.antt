@@ -1,16 +1,15 @@
 -- Demand 3 at the calls: an edit's reply is that of a plain parse of the new sentence, and of the call parse; an accepted one stores that sentence's tree, with its slots by the rule and its counts.
 use Prim.Native.Nat.{ℕ, _+_, _*_, _≤_, _<_}
-use mathlib.Core.Path.{_≡_, refl, sym, ap, _∙_, subst}
+use mathlib.Core.Path.{_≡_, refl, sym, _∙_, subst}
 use mathlib.Core.Logic.{_↔_}
-use mathlib.Core.List.{List, [], _∷_, List·Memᴰ}
+use mathlib.Core.List.{List, [], _∷_}
 use lib.ListN.{length}
 use native.Mathlib.Omega.{arith}
 use Rattle.grammar.specs.Each.{Each, each-join, each-take, each-drop}
 use Rattle.grammar.specs.Grammar.{Grammar}
 use Rattle.grammar.specs.Prediction.{Prepared}
-use Rattle.grammar.specs.Image.{Image}
 use Rattle.grammar.specs.Images.{image-one}
-use Rattle.grammar.specs.Forest.{Token, Forest, size, yield, Derives, Tree}
+use Rattle.grammar.specs.Forest.{Token, Forest, size, yield, Derives}
 use Rattle.tables.specs.Tables.{Tables}
 use Rattle.trees.specs.Area.{workAreas, slotAt, top, Valid}
 use Rattle.plain.specs.Plain.{Verdict, Parses}
@@ -32,14 +31,14 @@ use Rattle.replies.specs.declared.Reply.{Reply}
 use Rattle.replies.specs.declared.Reason.the-variants as reasons
 use Rattle.replies.specs.declared.Reply.the-variants.{Accepted, Refused}
 use Rattle.calls.specs.Order.{Outcome, Called}
-use Rattle.calls.specs.Checks.{Sized, Holds}
+use Rattle.calls.specs.Checks.{Holds}
 use Rattle.calls.specs.Parse.{parseCall}
 use Rattle.calls.specs.Edit.{Renewal, renewCall, editWith, editCall}
-use Rattle.calls.specs.OrderLaws.{require-single, exactly-numbered, placed-numbered, passes, goes-by, has-passed, is-accepted}
+use Rattle.calls.specs.OrderLaws.{SaysZero, zero-exactly, require-single, exactly-numbered, placed-numbered, passes, goes-by, has-passed, has-counts, is-accepted}
 use Rattle.calls.specs.CheckLaws.{Fit, validOf, valid-sized, valid-holds, area-single, tree-single, sentence-single, given-rest, given-by}
-use Rattle.calls.specs.CallsUnique.{stored-tree, altered-parses}
-use Rattle.calls.specs.Verdicts.{Answers, Alike, Answered, answered-exactly, answered-alike, answered-place, answered-fits, answered-zero, parsed-answered, accepted-size}
-use Rattle.calls.specs.Demand2.{SaysZero, zero-exactly, Stores, parse-answered}
+use Rattle.calls.specs.CallsUnique.{altered-parses}
+use Rattle.calls.specs.Verdicts.{Answers, Decided, by-zero, by-nine, decided-early, Alike, Answered, answered-exactly, answered-alike, answered-place, answered-fits, answered-zero, parsed-answered, accepted-size}
+use Rattle.calls.specs.Demand2.{Stores, parse-stores, parse-answered}
 
 -- ---- what edit has found
 
@@ -56,9 +55,10 @@ pub record EditReached (image tables tokens : List ℕ) (place removed room : �
   pub within : place + removed ≤ length (yield (old .tree))
   pub last : Outcome (renewCall grammar slots (editOf place removed inserted) (old .tree)) tree r tree'
 
-pub edit-reached : {image tables tokens : List ℕ} {place removed room : ℕ} {tree : List ℕ} {r : Reply} {tree' : List ℕ} → ((k : ℕ) → 1 ≤ k → k ≤ 8 → numberOf r ≡ k → ⊥)
+pub edit-reached : {image tables tokens : List ℕ} {place removed room : ℕ} {tree : List ℕ} {r : Reply} {tree' : List ℕ} → Decided r
     → Outcome (editCall image tables tokens place removed room tree) tree r tree' → EditReached image tables tokens place removed room tree r tree'
-edit-reached {tables = tables} {tokens} {place} {removed} {room} {tree} n h =
+edit-reached {tables = tables} {tokens} {place} {removed} {room} {tree} d h =
+    let n = decided-early d in
     let (G, f, o) = given-by (editWith tables tokens place removed room tree) (λ k a b. n k a (omega arith)) h in
     let (_, t, o₄) = goes-by exactly-numbered (n 4 (omega arith) (omega arith)) o in
     let (S, z, o₅) = goes-by exactly-numbered (n 5 (omega arith) (omega arith)) o₄ in
@@ -77,10 +77,15 @@ pub edit-stops : {image tables tokens : List ℕ} {place removed room : ℕ} {tr
     → Outcome (editCall image tables tokens place removed room tree) tree (Refused (reasons.Syntax i e)) tree'
     → (x : EditReached image tables tokens place removed room tree (Refused (reasons.Syntax i e)) tree') × Longest (x .grammar) (edited (editOf place removed (x .inserted)) (yield (x .old .tree))) i
 edit-stops i e tree' h =
-    let x = edit-reached (λ k a b q. omega arith) h in
+    let x = edit-reached (by-nine refl) h in
     (x, answered-place (x .fit .prepared) (renew-answered (x .fit .prepared) (x .old .some) (x .last)) i e refl)
 
 -- ---- after an accepted edit
+
+-- an accepted reply holds counts
+pub edit-accepted : {image tables tokens : List ℕ} {place removed room : ℕ} {tree : List ℕ} {r : Reply} {tree' : List ℕ}
+    → Outcome (editCall image tables tokens place removed room tree) tree r tree' → numberOf r ≡ 0 → (c : Counts) × (r ≡ Accepted c)
+edit-accepted h e = let (c, q, _) = has-counts (has-passed e (edit-reached (by-zero e) h .last) .2) in (c, q)
 
 -- the area is a valid tree again, in as many slots; its tokens are the old ones with the run replaced; its counts add up
 pub record Renewed (image tree : List ℕ) (place removed : ℕ) (tokens : List ℕ) (c : Counts) (tree' : List ℕ) : Type 0 where
@@ -109,7 +114,7 @@ module _ {G : Grammar} {S : ℕ} {e : Edit} {old : Forest} {c : Counts} {tree' :
 pub edit-renews : {image tables tokens : List ℕ} {place removed room : ℕ} {tree : List ℕ} (c : Counts) (tree' : List ℕ)
     → Outcome (editCall image tables tokens place removed room tree) tree (Accepted c) tree' → Renewed image tree place removed tokens c tree'
 edit-renews {place = place} {removed} {tree = tree} c tree' h =
-    let y = edit-reached (λ k a b e. omega arith) h in
+    let y = edit-reached (by-zero refl) h in
     let x : Renewal (y .grammar) (y .slots) (editOf place removed (y .inserted)) (y .old .tree) c tree' = is-accepted refl (has-passed refl (y .last) .2) in
     record {
       grammar = y .grammar;
@@ -136,9 +141,9 @@ module _ {image tree tokens tree' : List ℕ} {place removed : ℕ} {c : Counts}
   both-trees : Trees (h .grammar) the-edit (h .old .tree) (h .new .tree)
   both-trees = altered-trees (h .fit .prepared) (h .old .derives) (h .within) (h .slotted)
 
-  -- "a node keeps its slot exactly by document 01's rule": it has the old node's slot, which is one of the kept ones
+  -- demand 3: "a node keeps its slot exactly by document 01's rule": it has the old node's slot, and the old node is not given up
   pub edit-keeps : {a' q' m' t' a q m t : ℕ} {f' f : Forest} → Node (h .new .tree) a' q' m' t' f' → Node (h .old .tree) a q m t f
-      → Keeps the-edit (h .old .tree) (h .new .tree) a' a ↔ ((top f' ≡ top f) × List·Memᴰ (top f) (h .slotted .held))
+      → Keeps the-edit (h .old .tree) (h .new .tree) a' a ↔ ((top f' ≡ top f) × ((b' : ℕ) × Keeps the-edit (h .old .tree) (h .new .tree) b' a))
   edit-keeps n o = keeps-exactly both-trees (h .slotted) (h .old .area) (h .new .area) n o
 
   -- every node that starts before the place keeps its slot, and its number
@@ -209,11 +214,31 @@ record Fitted (G : Grammar) (bytes : List ℕ) (f : Forest) : Type 0 where
   spelt : Sentence (G .t) bytes (yield f)
   derives : Derives G (G .start ∷ []) f
 
--- the tree that an accepted edit stores is the one that parse makes of the new sentence's bytes: the same nodes, symbols, productions and tags, the slots aside
-pub edit-same : {image tables tree tokens tree' bytes area area' : List ℕ} {place removed room long : ℕ} {c d : Counts} (x : Renewed image tree place removed tokens c tree')
+-- derivation trees of the same bytes are the same but for their slots
+same-trees : {image tables tree tokens tree' bytes area area' : List ℕ} {place removed room long : ℕ} {c d : Counts} (x : Renewed image tree place removed tokens c tree')
     → (y : Stores image tables bytes room long area d area') → bytes ≡ tokenBytes (yield (x .new .tree)) → Same (x .new .tree) (y .storage .tree)
-edit-same {bytes = bytes} x y e =
+same-trees {bytes = bytes} x y e =
     let q : x .grammar ≡ y .reached .grammar = image-one (x .fit .reads) (y .reached .fit .reads) in
     let z : Fitted (x .grammar) bytes (y .storage .tree) = subst (λ (G : Grammar). Fitted G bytes (y .storage .tree)) (sym q) (record { spelt = rw (← y .storage .stored .yields) at (y .reached .spelt); derives = y .storage .stored .derives }) in
     let w = sentence-one (rw (← e) at (valid-spelt (x .new))) (z .spelt) in
     tree-one (x .fit .prepared) (record { tree = x .new .tree; derives = x .new .derives; yields = refl }) (record { tree = y .storage .tree; derives = z .derives; yields = sym w })
+
+-- the tree that an accepted edit stores is the one that parse makes of the new sentence's bytes, in any area of that length and with work enough: parse is accepted with the same
+-- total, and its tree has the same nodes, symbols, productions and tags, the slots aside
+pub edit-same : {image tables tokens : List ℕ} {place removed room room' : ℕ} {tree tree' bytes area area' : List ℕ} (c : Counts) (r' : Reply)
+    (h : Outcome (editCall image tables tokens place removed room tree) tree (Accepted c) tree') → workAreas * length tree ≤ room'
+    → bytes ≡ tokenBytes (yield (edit-renews c tree' h .new .tree)) → Outcome (parseCall image tables bytes room' (length tree)) area r' area'
+    → (d : Counts) × (y : Stores image tables bytes room' (length tree) area d area') × (r' ≡ Accepted d) × (d .total ≡ c .total) × Same (edit-renews c tree' h .new .tree) (y .storage .tree)
+edit-same {image} {tables} {room' = room'} {tree} {tree'} {bytes} {area} {area'} c r' h m e p =
+    let x = edit-renews c tree' h in
+    let y = edit-reached (by-zero refl) h in
+    let t : Tables (x .grammar) tables = subst (λ (G : Grammar). Tables G tables) (image-one (y .fit .reads) (x .fit .reads)) (y .right) in
+    let w : List Token = yield (x .new .tree) in
+    let s : Sentence (x .grammar .t) bytes w = subst (λ (b : List ℕ). Sentence (x .grammar .t) b w) (sym e) (valid-spelt (x .new)) in
+    let a = parse-answered (x .fit) t (valid-sized (x .old)) m s p in
+    let f : Fitting (x .grammar) (x .slots) w (size (x .new .tree)) =
+    record { tree = record { tree = x .new .tree; derives = x .new .derives; yields = refl }; nodes = refl; fits = x .slotted .fits } in
+    let (d, q, z) = answered-fits (x .fit .prepared) (x .old .some) a (size (x .new .tree)) .1 f in
+    let o : Outcome (parseCall image tables bytes room' (length tree)) area (Accepted d) area' = subst (λ (r : Reply). Outcome (parseCall image tables bytes room' (length tree)) area r area') q p in
+    let v = parse-stores d area' o in
+    (d, v, q, z ∙ sym (x .total), same-trees x v e)

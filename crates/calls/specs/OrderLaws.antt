@@ -1,18 +1,20 @@
--- Laws of every call: no second outcome; a refusal leaves every lent buffer; the work area is zero; what an accepted call has passed.
+-- Laws of every call: no second outcome; a refusal leaves every lent buffer; the bytes of the reply; what a call with some reply has passed.
 use Prim.Native.Nat.{ℕ, _≤_}
 use mathlib.Core.Path.{_≡_, refl, sym, ap, _∙_, subst}
+use mathlib.Core.Logic.{_↔_}
 use mathlib.Core.List.{List, []}
-use lib.ListN.{length}
+use lib.ListN.{length, take}
 use native.Mathlib.Omega.{arith}
+use Rattle.base.specs.Bytes.{leBytes}
 use Rattle.base.specs.Blocks.{copied, zeros}
 use Rattle.grammar.specs.Single.{lowest-one}
-use Rattle.replies.specs.Reply.{numberOf, replyBytes}
-use Rattle.replies.specs.ReplyLaws.{refused-number}
+use Rattle.replies.specs.Reply.{wordSize, numberOf, replyBytes}
+use Rattle.replies.specs.ReplyLaws.{refused-number, number-told}
 use Rattle.replies.specs.declared.Counts.{Counts}
 use Rattle.replies.specs.declared.Reason.{Reason}
 use Rattle.replies.specs.declared.Reply.{Reply}
 use Rattle.replies.specs.declared.Reply.the-variants.{Accepted, Refused}
-use Rattle.calls.specs.Order.{Check, Held, counts, Call, try, accept, Tried, refused, passed, Done, accepted, Outcome, Ends, Called, Exactly, exactly, Placed, at, require, find, none}
+use Rattle.calls.specs.Order.{Check, counts, Call, try, accept, Tried, refused, passed, Done, accepted, Outcome, Ends, Called, Exactly, exactly, Placed, at, require, find, none}
 
 -- ---- no second outcome
 
@@ -66,7 +68,7 @@ called-without call before slice after slice' r o e = record { reply = r; ends =
 -- ---- refusals
 
 -- number 0 is that of no refusal
-pub not-refused : {A : Type 0} (p : Reason) → numberOf (Refused p) ≡ 0 → A
+not-refused : {A : Type 0} (p : Reason) → numberOf (Refused p) ≡ 0 → A
 not-refused p e = absurd (omega (arith, refused-number p .0, e))
 
 -- "Any refusal, also of a call added later, leaves every lent buffer but the work area unchanged"
@@ -81,7 +83,7 @@ refusal-keeps (accept h P) before r after e o = go o e
     go : {r : Reply} {after : _} → Done h P r after → (numberOf r ≡ 0 → ⊥) → after ≡ before
     go (accepted {x = x} q) e = absurd (e (h .number x))
 
--- what a call is lent before it matters to nothing but a refusal: other buffers give the same reply, and the same buffers where it is accepted
+-- with other earlier contents of the lent buffers the reply is the same, and where it is accepted so is what is left in them
 pub any-before : {B : Type 0} (call : Call B) (before other : B) (r : Reply) (after : B) → Outcome call before r after → (v : B) × Outcome call other r v × (numberOf r ≡ 0 → v ≡ after)
 any-before (try {A = A} c next) before other r after o = go (λ x k. any-before (next x) before other r after k) o
   where
@@ -90,6 +92,24 @@ any-before (try {A = A} c next) before other r after o = go (λ x k. any-before 
     go k (refused {p = p} f) = (other, refused f, λ e. not-refused p e)
     go k (passed {x = x} q o) = let (v, h, e) = k x o in (v, passed q h, e)
 any-before (accept h P) before other r after o = (after, o, λ e. refl)
+
+-- ---- the reply's bytes
+
+-- the number that the first four bytes of a slice say is 0
+abbrev pub SaysZero : List ℕ → Type 0
+SaysZero slice = take wordSize slice ≡ leBytes wordSize 0
+
+module _ {B : Type 0} {call : Call B} {before after : B} {work work' slice slice' : List ℕ} (l : wordSize ≤ length slice) (h : Called call before work slice after work' slice') where
+  says-zero : SaysZero slice' ↔ (numberOf (h .reply) ≡ 0)
+  says-zero = number-told slice slice' (h .reply) l (h .written) 0 (omega arith)
+
+  -- what holds exactly of an accepted reply holds exactly of these bytes
+  pub zero-exactly : {P : Type 0} → (numberOf (h .reply) ≡ 0) ↔ P → SaysZero slice' ↔ P
+  zero-exactly e = (λ x. e .0 (says-zero .0 x), λ p. says-zero .1 (e .1 p))
+
+  -- of the exported call: a refusal leaves every lent buffer
+  pub called-refused : (SaysZero slice' → ⊥) → after ≡ before
+  called-refused n = refusal-keeps call before (h .reply) after (λ e. n (says-zero .1 e)) (h .ends .outcome)
 
 -- ---- what has passed
 
@@ -102,7 +122,7 @@ passes {Next = Next} {after = after} {r = r} s p (passed q h) = subst (λ z. Nex
 abbrev pub Numbered : {A : Type 0} → Check A → ℕ → Type 0
 Numbered c k = (p : Reason) → c .Fail p → numberOf (Refused p) ≡ k
 
--- and so has one whose number is not that of the reply
+-- a check whose reasons have another number than the reply has passed
 pub goes-by : {A B : Type 0} {c : Check A} {Next : A → Reply → B → Type 0} {before after : B} {r : Reply} {k : ℕ} → Numbered c k → (numberOf r ≡ k → ⊥) → Tried c Next before r after
     → (x : A) × c .Pass x × Next x r after
 goes-by n e (refused {p = p} f) = absurd (e (n p f))

@@ -38,14 +38,14 @@ storeCall G S w = do
   parsed G S w  -- 9, 10
   accept counts (Storage G S w)
 
--- where `room` is the length of the work area and `size` that of the tree area, whose "earlier contents" parse "ignores"
-abbrev pub parseWith : (tables tokens : List ℕ) (room size : ℕ) → Grammar → Call (List ℕ)
-parseWith tables tokens room size G = do
+-- where `room` is the length of the work area and `long` that of the tree area, whose "earlier contents" parse "ignores"
+abbrev pub parseWith : (tables tokens : List ℕ) (room long : ℕ) → Grammar → Call (List ℕ)
+parseWith tables tokens room long G = do
   tablesOf G tables  -- 4
-  S ← area size  -- 5
-  workFor size room  -- 6
+  S ← area long  -- 5
+  workFor long room  -- 6
   w ← sentence (G .t) tokens  -- 7
   storeCall G S w  -- 9, 10
 
-abbrev pub parseCall : (image tables tokens : List ℕ) (room size : ℕ) → Call (List ℕ)
-parseCall image tables tokens room size = given image (parseWith tables tokens room size)  -- 1, 2, 3
+abbrev pub parseCall : (image tables tokens : List ℕ) (room long : ℕ) → Call (List ℕ)
+parseCall image tables tokens room long = given image (parseWith tables tokens room long)  -- 1, 2, 3

@@ -19,18 +19,13 @@ pub record Returned (f : Forest) (output : List ℕ) (c : Counts) (output' : Lis
   pub counts : c ≡ readCounts (size f)
   pub bytes : output' ≡ tokenBytes (yield f) ++ drop (needed f) output
 
--- the rest of read back from its last check on
-abbrev pub returnCall : Forest → List ℕ → Call (List ℕ)
-returnCall f output = do
-  outputFor f (length output)  -- 11
-  accept counts (Returned f output)
-
 -- "read back tries 1, 2, 3, 5, 11"
 abbrev pub readBackWith : (tree output : List ℕ) → Grammar → Call (List ℕ)
 readBackWith tree output G = do
   S ← area (length tree)  -- 5
   f ← treeIn G S tree  -- 5
-  returnCall f output  -- 11
+  outputFor f (length output)  -- 11
+  accept counts (Returned f output)
 
 abbrev pub readBackCall : (image tree output : List ℕ) → Call (List ℕ)
 readBackCall image tree output = given image (readBackWith tree output)  -- 1, 2, 3

@@ -24,7 +24,7 @@ use Rattle.calls.specs.ReadBack.{readCounts, readBackWith, readBackCall}
 use Rattle.calls.specs.OrderLaws.{one-outcome}
 use Rattle.calls.specs.CheckLaws.{Fit, valid-sized, valid-holds, given-passed}
 use Rattle.calls.specs.CallsUnique.{read-back-settled}
-use Rattle.calls.specs.Demand2.{Stores, parse-stores, stores-valid}
+use Rattle.calls.specs.Demand2.{parse-stores, stores-valid}
 use Rattle.calls.specs.Demand3.{Renewed, edit-renews}
 
 -- read back of an area gives one reply and output

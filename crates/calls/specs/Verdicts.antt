@@ -30,6 +30,18 @@ answers-one (Answers.yes e) (Answers.yes e') = ap accepted (sym e ∙ e')
 answers-one Answers.nine Answers.nine = refl
 answers-one Answers.ten Answers.ten = refl
 
+-- the reply is one of those
+pub data Decided (r : Reply) : Type 0 where
+  by-zero : numberOf r ≡ 0 → Decided r
+  by-nine : numberOf r ≡ 9 → Decided r
+  by-ten : numberOf r ≡ 10 → Decided r
+
+-- then no check before the plain parse refused
+pub decided-early : {r : Reply} → Decided r → (k : ℕ) → 1 ≤ k → k ≤ 8 → numberOf r ≡ k → ⊥
+decided-early (by-zero q) k l m e = omega (arith, q, e)
+decided-early (by-nine q) k l m e = omega (arith, q, e)
+decided-early (by-ten q) k l m e = omega (arith, q, e)
+
 -- the same number, place, expected set and total
 pub record Alike (r r' : Reply) : Type 0 where
   pub number : numberOf r ≡ numberOf r'

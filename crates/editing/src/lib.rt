@@ -1,4 +1,4 @@
-// The checks that edit alone tries, and the rest of the call after them.
+// An edit's old tree (replies 5 and 6), its range (8), and the rest of the call (9, 10).
 use altering::Alteration;
 use grammar::Head;
 use replies::Counts;
@@ -21,7 +21,7 @@ ghost use Rattle.altering.specs.Treed.{Treed};
 ghost use Rattle.calls.specs.Checks.{Sized};
 ghost use Rattle.editing.specs.Editing.{Finds, Renews, editCounts};
 
-// Whether an area of so many slots is a valid tree, found without a work area.
+// Whether an area of that many slots is a valid tree, found in a local array, where the lent work area is too short.
 fn is_tree(tree: &[u8], slots: usize, rows: &[u8], head: Head) -> bool
     requires { ⌜ Sized slots (length (now tree)) × (head .start < symbolSpace) ⌝ }
     ensures { λ r. ⌜ Tells (Valid (grammarIn (now (rows .entry)) head) slots (now (tree .entry))) r ⌝ }
@@ -40,7 +40,7 @@ pub enum OldTree {
     ShortWork,
 }
 
-// Replies 5 and 6 of an area of so many slots.
+// Replies 5 and 6 of an area of that many slots.
 pub fn old_tree(tree: &[u8], slots: usize, rows: &[u8], head: Head, work: &mut [u8]) -> OldTree
     requires { ⌜ Sized slots (length (now tree)) × (head .start < symbolSpace) ⌝ }
     ensures { λ r. ⌜ Finds (grammarIn (now (rows .entry)) head) slots (now (tree .entry)) (length (now (work .entry))) (now (work .exit)) r ⌝ }
@@ -57,7 +57,7 @@ pub fn old_tree(tree: &[u8], slots: usize, rows: &[u8], head: Head, work: &mut [
     }
 }
 
-// Reply 8: whether the run is inside a sentence of so many tokens.
+// Reply 8: whether the run is inside a sentence of `tokens` tokens.
 pub fn in_range(place: u32, removed: u32, tokens: usize) -> bool
     ensures { λ r. ⌜ Tells (place + removed ≤ tokens) r ⌝ }
 {

@@ -100,7 +100,7 @@ kept-made [] = refl
 kept-made (zero ∷ hs) = omega (arith, kept-made hs)
 kept-made (suc s ∷ hs) = omega (arith, kept-made hs)
 
-pub mem-at : {x : ℕ} (xs : List ℕ) → List·Memᴰ x xs → (i : ℕ) × (i < length xs) × (x ≡ getD xs i 0)
+mem-at : {x : ℕ} (xs : List ℕ) → List·Memᴰ x xs → (i : ℕ) × (i < length xs) × (x ≡ getD xs i 0)
 mem-at (y ∷ xs) (List·Memᴰ·head e) = (0, omega arith, e)
 mem-at (y ∷ xs) (List·Memᴰ·tail m) = let q = mem-at xs m in (suc (q .0), omega (arith, q .1), q .2)
 

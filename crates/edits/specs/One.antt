@@ -55,6 +55,12 @@ keeps-node (Keeps.above x y) l = absurd (omega arith)
 keeps-node (Keeps.full {q = q} {m = m} {t = t} {f = f} hn ho k s ln lo) l = record { parent = q; child = m; token = t; forest = f; node = ho }
 keeps-node (Keeps.void {q = q} {m = m} {t = t} {f = f} hn ho k zn zo) l = record { parent = q; child = m; token = t; forest = f; node = ho }
 
+-- and the one that keeps it is the new tree's
+pub keeps-new : {e : Edit} {old new : Forest} {a' a : ℕ} → Keeps e old new a' a → 1 ≤ a → Numbered 1 0 0 0 new a'
+keeps-new (Keeps.above x y) l = absurd (omega arith)
+keeps-new (Keeps.full {q' = q} {m' = m} {t' = t} {f' = f} hn ho k s ln lo) l = record { parent = q; child = m; token = t; forest = f; node = hn }
+keeps-new (Keeps.void {q' = q} {t' = t} {m = m} {f' = f} hn ho k zn zo) l = record { parent = q; child = m; token = t; forest = f; node = hn }
+
 -- a node without tokens keeps a slot only below its parent's, at the same place
 pub record Below (e : Edit) (old new : Forest) (q m a : ℕ) : Type 0 where
   pub parent : ℕ

@@ -7,7 +7,7 @@ use Rattle.replies.specs.declared.Reason.the-variants.{WrongTree}
 use Rattle.calls.specs.Order.{exactly}
 use Rattle.calls.specs.Checks.{Sized, area}
 
--- an area of this size has so many slots; 0 where the size is wrong
+-- the slots of an area of this size; 0 where the size is wrong
 pub record Slotted (size slots : ℕ) : Type 0 where
   pub right : (slots ≡ 0 → ⊥) → Sized slots size
   pub wrong : slots ≡ 0 → (S : ℕ) → Sized S size → ⊥

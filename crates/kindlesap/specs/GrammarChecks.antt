@@ -20,7 +20,6 @@ use Rattle.predictions.specs.Idle.{Idle, idle-lowest, idle-useful}
 use Rattle.predictions.specs.Listing.{Listed, Rowed}
 use Rattle.predictions.specs.Verdict.{rowed, low-lowest, low-ll1}
 use Rattle.tables.specs.Outcome.{Ready}
-use Rattle.replies.specs.declared.Reply.{Reply}
 use Rattle.replies.specs.declared.Reason.{Reason}
 use Rattle.replies.specs.declared.Reason.the-variants as reasons
 use Rattle.replies.specs.declared.Reply.the-variants.{Refused}
@@ -40,7 +39,7 @@ pub data Checks (image rows s cells : List ℕ) : GrammarChecked → Type 0 wher
   fits : {h : Head} → Image image (grammarIn rows h) → Ready rows h s cells → Checks image rows s cells (GrammarChecked.Fit h)
   unfit : {p : Reason} → Unfit image p → Checks image rows s cells (GrammarChecked.Unfit p)
 
--- so many productions are read from the rows
+-- k productions are read from the rows
 length-productions : (rows : List ℕ) (k p : ℕ) → length (productionsFrom rows k p) ≡ k
 length-productions rows zero p = refl
 length-productions rows (suc k) p = ap suc (length-productions rows k (p + 1))

@@ -5,5 +5,3 @@ pub mod PrepareChecks
 pub mod ParseChecks
 pub mod EditChecks
 pub mod ReadBackChecks
--- Laying out and walking undo each other.
-pub mod RoundTrip

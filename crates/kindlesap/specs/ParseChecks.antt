@@ -1,22 +1,22 @@
 -- The laws that the proof of parse cites: an accepted sentence's node list is its derivation tree in preorder, and is laid out so; what each check on the way says of the call.
 use Prim.Native.Nat.{ℕ, zero, suc, _+_, _*_, _≤_, _<_}
-use mathlib.Core.Path.{_≡_, refl, sym, ap, _∙_, subst}
+use mathlib.Core.Path.{_≡_, refl, sym, ap, _∙_}
 use mathlib.Core.List.{List, [], _∷_, List·Memᴰ, List·Memᴰ·head, List·Memᴰ·tail}
 use lib.ListN.{length}
 use native.Mathlib.Omega.{arith}
 use Rattle.grammar.specs.Each.{Each}
 use Rattle.grammar.specs.Grammar.{Grammar}
 use Rattle.grammar.specs.Prediction.{Prepared}
-use Rattle.grammar.specs.Forest.{Token, Forest, size, Derives}
+use Rattle.grammar.specs.Forest.{Forest, size, Derives}
 use Rattle.grammar.specs.Rows.{grammarIn}
 use Rattle.grammar.specs.declared.Head.{Head}
 use Rattle.tables.specs.Tables.{Tables}
-use Rattle.trees.specs.Area.{workAreas, slots, Distinct, Area}
+use Rattle.trees.specs.Area.{workAreas, Distinct, Area}
 use Rattle.trees.specs.Nodes.{Node, preorder, lists-forest, build, Formed, build-preorder, derives-formed, Fed, fed-preorder, leavesOf, leaves-yield}
 use Rattle.trees.specs.Coded.{nodesFrom, length-nodes, arityIn}
 use Rattle.trees.specs.Spread.{slotsOf, Spread, slots-build, size-build}
 use Rattle.plain.specs.Exactly.{accepted-exactly}
-use Rattle.plain.specs.Tokens.{Sentence, tokensFrom}
+use Rattle.plain.specs.Tokens.{tokensFrom}
 use Rattle.plain.specs.Text.{parseSize}
 use Rattle.plain.specs.Machine.{Ground, Numbered, Done}
 use Rattle.plain.specs.Outcome.{Told, is-good, is-bad, Ran, is-wrong, is-full}
@@ -113,7 +113,7 @@ module _ {G : Grammar} {S : ℕ} {b : List ℕ} {m : ℕ} {work : List ℕ} {r :
 pub room-for : (S long room : ℕ) → Sized S long → workAreas * long ≤ room → parseSize S (S + 1) ≤ room
 room-for S long room z l = omega (arith, z .long, l)
 
--- ---- the checks before: each says what the call does where it refuses, and that the rest of the call is the call where it passes
+-- ---- for each check: the outcome of the call where it refuses, and the rest of the call where it passes
 
 -- replies 1 to 3
 pub parse-3 : (tables tokens : List ℕ) (room long : ℕ) (tree : List ℕ) {image rows s cells : List ℕ} {r : GrammarChecked} (p : Reason) → Checks image rows s cells r → r ≡ GrammarChecked.Unfit p

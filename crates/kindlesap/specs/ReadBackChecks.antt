@@ -6,7 +6,6 @@ use lib.ListN.{length, take, drop}
 use lib.Seq.{take-all}
 use native.Mathlib.Omega.{arith}
 use Rattle.base.specs.Bytes.{get16}
-use Rattle.grammar.specs.Grammar.{Grammar}
 use Rattle.grammar.specs.Forest.{Token, yield}
 use Rattle.grammar.specs.Rows.{grammarIn}
 use Rattle.grammar.specs.declared.Head.{Head}

@@ -23,43 +23,43 @@ pub fn edit_checked(
     let mut rows = [0u8; grammar::ROWS_SIZE];
     let mut sets = [0u32; sets::SETS_SIZE];
     let mut cells = [0u8; tables::PREDICTIONS_SIZE];
-    // 1, 2, 3
+    // Replies 1, 2, 3
     let head = match crate::checks::check_grammar(image, &mut rows, &mut sets, &mut cells) {
         GrammarChecked::Fit(head) => head,
         GrammarChecked::Unfit(reason) => return Reply::Refused(reason),
     };
-    // 4
+    // Reply 4
     if !tables::is_prepared(&rows, head, &sets, &cells, tables) {
         return Reply::Refused(Reason::WrongTables);
     }
-    // 5
+    // Reply 5
     let slots = crate::checks::slots_of(tree.len());
     if slots == 0 {
         return Reply::Refused(Reason::WrongTree);
     }
-    // 5, 6
-    let o = match editing::old_tree(tree, slots, &rows, head, work) {
-        OldTree::Tree(o) => o,
+    // Replies 5, 6
+    let nodes = match editing::old_tree(tree, slots, &rows, head, work) {
+        OldTree::Tree(nodes) => nodes,
         OldTree::NoTree => return Reply::Refused(Reason::WrongTree),
         OldTree::ShortWork => {
             return Reply::Refused(Reason::ShortWork((trees::WORK_AREAS * tree.len()) as u64));
         }
     };
-    // 7
+    // Reply 7
     let m = match plain::read_tokens(tokens, head.t) {
         Tokens::Good(m) => m,
         Tokens::Bad(bad) => return Reply::Refused(Reason::BadToken(bad as u64)),
     };
-    // 8
-    let old = base::get16(tree, trees::TOKENS_PLACE);
-    if !editing::in_range(place, removed, old) {
-        return Reply::Refused(Reason::BeyondTokens(old as u64));
+    // Reply 8
+    let old_tokens = base::get16(tree, trees::TOKENS_PLACE);
+    if !editing::in_range(place, removed, old_tokens) {
+        return Reply::Refused(Reason::BeyondTokens(old_tokens as u64));
     }
-    // 9, 10
+    // Replies 9, 10
     editing::renew(
         tree,
         slots,
-        o,
+        nodes,
         place,
         removed,
         tokens,

@@ -17,7 +17,7 @@ ghost use Rattle.calls.specs.Checks.{Sized};
 ghost use Rattle.calls.specs.Parse.{storeCall, parseCall};
 
 // Replies 9 and 10, or the tree of m good tokens.
-fn store(
+fn parse_tokens(
     tokens: &[u8],
     m: usize,
     tables: &[u8],
@@ -59,30 +59,30 @@ pub fn parse_checked(
     let mut rows = [0u8; grammar::ROWS_SIZE];
     let mut sets = [0u32; sets::SETS_SIZE];
     let mut cells = [0u8; tables::PREDICTIONS_SIZE];
-    // 1, 2, 3
+    // Replies 1, 2, 3
     let head = match crate::checks::check_grammar(image, &mut rows, &mut sets, &mut cells) {
         GrammarChecked::Fit(head) => head,
         GrammarChecked::Unfit(reason) => return Reply::Refused(reason),
     };
-    // 4
+    // Reply 4
     if !tables::is_prepared(&rows, head, &sets, &cells, tables) {
         return Reply::Refused(Reason::WrongTables);
     }
-    // 5
+    // Reply 5
     let slots = crate::checks::slots_of(tree.len());
     if slots == 0 {
         return Reply::Refused(Reason::WrongTree);
     }
-    // 6
+    // Reply 6
     let need = trees::WORK_AREAS * tree.len();
     if work.len() < need {
         return Reply::Refused(Reason::ShortWork(need as u64));
     }
-    // 7
+    // Reply 7
     let m = match plain::read_tokens(tokens, head.t) {
         Tokens::Good(m) => m,
         Tokens::Bad(bad) => return Reply::Refused(Reason::BadToken(bad as u64)),
     };
-    // 9, 10
-    store(tokens, m, tables, &rows, head, slots, tree, work)
+    // Replies 9, 10
+    parse_tokens(tokens, m, tables, &rows, head, slots, tree, work)
 }

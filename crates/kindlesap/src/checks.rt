@@ -24,13 +24,13 @@ fn judge(rows: &[u8], head: Head, sets: &mut [u32], cells: &mut [u8]) -> Grammar
     ensures { λ r. ⌜ Judges (now (rows .entry)) head (now (sets .exit)) (now (cells .exit)) r ⌝ }
 {
     sets::analyse(rows, head, sets);
-    let idle = predictions::useless(sets, head);
-    if idle != 0 {
-        return GrammarChecked::Unfit(Reason::UselessSymbol(idle as u64));
+    let useless = predictions::useless(sets, head);
+    if useless != 0 {
+        return GrammarChecked::Unfit(Reason::UselessSymbol(useless as u64));
     }
-    let low = predictions::predict(rows, head, sets, cells);
-    if low != 0 {
-        return GrammarChecked::Unfit(Reason::NotLl1(low as u64));
+    let conflict = predictions::predict(rows, head, sets, cells);
+    if conflict != 0 {
+        return GrammarChecked::Unfit(Reason::NotLl1(conflict as u64));
     }
     GrammarChecked::Fit(head)
 }

@@ -23,12 +23,12 @@ pub fn prepare(image: &[u8], tables: &mut [u8]) -> Reply
     let mut rows = [0u8; grammar::ROWS_SIZE];
     let mut sets = [0u32; sets::SETS_SIZE];
     let mut cells = [0u8; tables::PREDICTIONS_SIZE];
-    // 1, 2, 3
+    // Replies 1, 2, 3
     let head = match checks::check_grammar(image, &mut rows, &mut sets, &mut cells) {
         GrammarChecked::Fit(head) => head,
         GrammarChecked::Unfit(reason) => return Reply::Refused(reason),
     };
-    // 4
+    // Reply 4
     if tables.len() != tables::TABLES_SIZE {
         return Reply::Refused(Reason::WrongTables);
     }
@@ -74,12 +74,12 @@ pub fn read_back(image: &[u8], tree: &[u8], output: &mut [u8]) -> Reply
     let mut rows = [0u8; grammar::ROWS_SIZE];
     let mut sets = [0u32; sets::SETS_SIZE];
     let mut cells = [0u8; tables::PREDICTIONS_SIZE];
-    // 1, 2, 3
+    // Replies 1, 2, 3
     let head = match checks::check_grammar(image, &mut rows, &mut sets, &mut cells) {
         GrammarChecked::Fit(head) => head,
         GrammarChecked::Unfit(reason) => return Reply::Refused(reason),
     };
-    // 5
+    // Reply 5
     let slots = checks::slots_of(tree.len());
     if slots == 0 {
         return Reply::Refused(Reason::WrongTree);
@@ -89,7 +89,7 @@ pub fn read_back(image: &[u8], tree: &[u8], output: &mut [u8]) -> Reply
         Walked::Tree(o) => o,
         Walked::NoTree => return Reply::Refused(Reason::WrongTree),
     };
-    // 11
+    // Reply 11
     let tokens = base::get16(tree, trees::TOKENS_PLACE);
     let need = plain::TOKEN_SIZE * tokens;
     if output.len() < need {

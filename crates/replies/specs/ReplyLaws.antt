@@ -1,5 +1,5 @@
--- Laws of the reply: its number stands in its first bytes, and is 0 of no refusal.
-use Prim.Native.Nat.{ℕ, _+_, _-_, _%_, _≤_, min}
+-- Laws of the reply: its first four bytes are its number; no refusal has number 0.
+use Prim.Native.Nat.{ℕ, _+_, _-_, _%_, _≤_, _<_, min}
 use mathlib.Core.Path.{_≡_, refl, sym, ap, _∙_}
 use mathlib.Core.Logic.{_↔_}
 use mathlib.Core.List.{List}
@@ -14,8 +14,8 @@ use Rattle.replies.specs.declared.Reply.{Reply}
 use Rattle.replies.specs.declared.Reason.the-variants.{BadGrammar, UselessSymbol, NotLl1, WrongTables, WrongTree, ShortWork, BadToken, BeyondTokens, Syntax, NoRoom, ShortOutput}
 use Rattle.replies.specs.declared.Reply.the-variants.{Accepted, Refused}
 
--- the numbers of refusals are 1 to 11
-pub refused-number : (p : Reason) → (1 ≤ numberOf (Refused p)) × (numberOf (Refused p) ≤ 11)
+-- a refusal's number is not 0, and is one byte
+pub refused-number : (p : Reason) → (1 ≤ numberOf (Refused p)) × (numberOf (Refused p) < 256)
 refused-number (BadGrammar k) = (omega arith, omega arith)
 refused-number (UselessSymbol k) = (omega arith, omega arith)
 refused-number (NotLl1 k) = (omega arith, omega arith)
@@ -28,7 +28,7 @@ refused-number (Syntax k x) = (omega arith, omega arith)
 refused-number NoRoom = (omega arith, omega arith)
 refused-number (ShortOutput k) = (omega arith, omega arith)
 
-number-small : (r : Reply) → numberOf r ≤ 11
+number-small : (r : Reply) → numberOf r < 256
 number-small (Accepted c) = omega arith
 number-small (Refused p) = refused-number p .1
 
@@ -45,12 +45,12 @@ number-first : (r : Reply) → (wordSize ≤ length (replyBytes r)) × (take wor
 unfolding replyBytes leBytes
 number-first r = (omega arith, refl)
 
-same-number : (m n : ℕ) → m ≤ 11 → n ≤ 11 → leBytes wordSize m ≡ leBytes wordSize n → m ≡ n
+same-number : (m n : ℕ) → m < 256 → n < 256 → leBytes wordSize m ≡ leBytes wordSize n → m ≡ n
 unfolding leBytes
 same-number m n l k e = let q : m % 256 ≡ n % 256 = cc in omega arith
 
 -- so a slice that holds them tells it
-pub number-told : (b b' : List ℕ) (r : Reply) → wordSize ≤ length b → b' ≡ copied b 0 (replyBytes r) → (n : ℕ) → n ≤ 11 → (take wordSize b' ≡ leBytes wordSize n) ↔ (numberOf r ≡ n)
+pub number-told : (b b' : List ℕ) (r : Reply) → wordSize ≤ length b → b' ≡ copied b 0 (replyBytes r) → (n : ℕ) → n < 256 → (take wordSize b' ≡ leBytes wordSize n) ↔ (numberOf r ≡ n)
 number-told b b' r l e n k =
     let f = number-first r in
     let q : take wordSize b' ≡ leBytes wordSize (numberOf r) = ap (take wordSize) e ∙ take-copied wordSize b (replyBytes r) l (f .0) ∙ f .1 in

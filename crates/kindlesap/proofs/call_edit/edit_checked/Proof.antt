@@ -98,8 +98,8 @@ old-tree-requires c κs =
     let f = checked-fit _ (g .check-grammar .ensures .0) (q .head .given .1) in
     (s .slots-of .ensures .right (c .before .before .before .if2 .left), start-small _ _ (f .prepared .formed))
 
-enum-known-o : tie.Need-enum-known-o
-enum-known-o c = search needs
+enum-known-nodes : tie.Need-enum-known-nodes
+enum-known-nodes c = search needs
 
 enum-told : tie.Need-enum-told
 enum-told c = search needs
@@ -174,7 +174,7 @@ returns-6 c =
     let q = to-head p in
     let g = to-check-grammar q in
     let f = checked-fit _ (g .check-grammar .ensures .0) (q .head .given .1) in
-    let (h, l, k) = found-tree _ (o .old-tree .ensures) (m .before .before .o .given .1) in
+    let (h, l, k) = found-tree _ (o .old-tree .ensures) (m .before .before .nodes .given .1) in
     edit-7 f _ _ _ _ _ _ (p .is-prepared .ensures .yes (not-false _ (s .before .if1 .left))) _ (h .valid) l _ (m .read-tokens .ensures) (c .before .bad .given .1)
 
 get16-requires : tie.Need-get16-requires
@@ -200,7 +200,7 @@ returns-7 c =
     let q = to-head p in
     let g = to-check-grammar q in
     let f = checked-fit _ (g .check-grammar .ensures .0) (q .head .given .1) in
-    let (h, l, k) = found-tree _ (o .old-tree .ensures) (m .before .before .o .given .1) in
+    let (h, l, k) = found-tree _ (o .old-tree .ensures) (m .before .before .nodes .given .1) in
     edit-8 f _ _ _ _ _ _ (p .is-prepared .ensures .yes (not-false _ (s .before .if1 .left))) _ (h .valid) l _ (m .read-tokens .ensures) (n .before .before .before .before .m .given .1) _ (n .before .get16 .ensures .0) (n .in-range .ensures .no (not-true _ (c .if3 .taken)))
 
 slice-aggregate-renew : tie.Need-slice-aggregate-renew
@@ -225,7 +225,7 @@ renew-requires c κs =
     let q = to-head p in
     let g = to-check-grammar q in
     let f = checked-fit _ (g .check-grammar .ensures .0) (q .head .given .1) in
-    let (h, l, k) = found-tree _ (o .old-tree .ensures) (m .before .before .o .given .1) in
+    let (h, l, k) = found-tree _ (o .old-tree .ensures) (m .before .before .nodes .given .1) in
     let i = n .in-range .ensures .yes (not-false _ (c .before .before .before .if3 .left)) in
     (f .prepared, p .is-prepared .ensures .yes (not-false _ (s .before .if1 .left)), h, is-good _ (m .read-tokens .ensures) (n .before .before .before .before .m .given .1) .sentence, search needs, k)
 
@@ -247,7 +247,7 @@ returns-8 c =
     let q = to-head p in
     let g = to-check-grammar q in
     let f = checked-fit _ (g .check-grammar .ensures .0) (q .head .given .1) in
-    let (h, l, k) = found-tree _ (o .old-tree .ensures) (m .before .before .o .given .1) in
+    let (h, l, k) = found-tree _ (o .old-tree .ensures) (m .before .before .nodes .given .1) in
     edit-rest f _ _ _ _ _ _ (p .is-prepared .ensures .yes (not-false _ (s .before .if1 .left))) _ (h .valid) l _ (m .read-tokens .ensures) (n .before .before .before .before .m .given .1) _ (n .before .get16 .ensures .0) (n .in-range .ensures .yes (not-false _ (r .before .before .before .before .if3 .left))) _ _ (r .renew .ensures)
 
 pub edit-checked-spec : {M : Type 1} → statement M
@@ -269,7 +269,7 @@ edit-checked-spec =
     returns-3
     slice-aggregate-old-tree
     old-tree-requires
-    enum-known-o
+    enum-known-nodes
     enum-told
     same-length
     same-length-2

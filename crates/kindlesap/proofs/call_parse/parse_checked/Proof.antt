@@ -19,7 +19,7 @@ to-head c = c .before .before .before .before .before
 abbrev to-slots-of : tie.After-read-tokens → tie.After-slots-of
 to-slots-of c = c .before .before .before
 
-abbrev to-read-tokens : tie.After-store → tie.After-read-tokens
+abbrev to-read-tokens : tie.After-parse-tokens → tie.After-read-tokens
 to-read-tokens c = c .before .before .before .before .before .before .before
 
 slice-aggregate-check-grammar : tie.Need-slice-aggregate-check-grammar
@@ -115,11 +115,11 @@ returns-5 c =
     let f = checked-fit _ (g .check-grammar .ensures .0) (q .head .given .1) in
     parse-7 f _ _ _ _ _ (p .is-prepared .ensures .yes (not-false _ (s .before .if1 .left))) _ (s .slots-of .ensures .right (m .before .before .if2 .left)) (search needs) _ (m .read-tokens .ensures) (c .before .bad .given .1)
 
-slice-aggregate-store : tie.Need-slice-aggregate-store
-slice-aggregate-store c = search needs
+slice-aggregate-parse-tokens : tie.Need-slice-aggregate-parse-tokens
+slice-aggregate-parse-tokens c = search needs
 
-store-requires : tie.Need-store-requires
-store-requires c κs =
+parse-tokens-requires : tie.Need-parse-tokens-requires
+parse-tokens-requires c κs =
     let m = c .before .before .before .before .before .before in
     let s = to-slots-of m in
     let p = s .before .before in
@@ -144,7 +144,7 @@ returns-6 c =
     let q = to-head p in
     let g = to-check-grammar q in
     let f = checked-fit _ (g .check-grammar .ensures .0) (q .head .given .1) in
-    parse-rest f _ _ _ _ _ (p .is-prepared .ensures .yes (not-false _ (s .before .if1 .left))) _ (s .slots-of .ensures .right (m .before .before .if2 .left)) (search needs) _ (m .read-tokens .ensures) (r .before .before .before .before .before .m .given .1) _ _ (r .store .ensures)
+    parse-rest f _ _ _ _ _ (p .is-prepared .ensures .yes (not-false _ (s .before .if1 .left))) _ (s .slots-of .ensures .right (m .before .before .if2 .left)) (search needs) _ (m .read-tokens .ensures) (r .before .before .before .before .before .m .given .1) _ _ (r .parse-tokens .ensures)
 
 pub parse-checked-spec : {M : Type 1} → statement M
 parse-checked-spec =
@@ -169,8 +169,8 @@ parse-checked-spec =
     enum-known-m
     enum-known-bad
     returns-5
-    slice-aggregate-store
-    store-requires
+    slice-aggregate-parse-tokens
+    parse-tokens-requires
     same-length
     same-length-2
     returns-6)

@@ -1,8 +1,8 @@
 use Rattle.plain.specs.Outcome.{is-done}
 use Rattle.kindlesap.specs.ParseChecks.{room-for, fits-slots, done-fed, done-spread, store-done, store-9, store-10}
 use borrow.Author.Needs.{needs}
-use Rattle.kindlesap.proofs.call_parse.store.Statement.{statement}
-use Rattle.kindlesap.proofs.call_parse.store.Tie as tie
+use Rattle.kindlesap.proofs.call_parse.parse_tokens.Statement.{statement}
+use Rattle.kindlesap.proofs.call_parse.parse_tokens.Tie as tie
 
 -- from each check back to the one before it
 abbrev to-pre : tie.After-parse-lent → tie.Start
@@ -87,8 +87,8 @@ returns-3 c =
     let s = to-pre r in
     store-done _ _ _ _ _ _ _ (s .pre .1 .some) (is-done _ (r .parse-lent .ensures) (l .before .before .before .before .o .given .1)) _ _ (l .lay-out .ensures)
 
-pub store-spec : {M : Type 1} → statement M
-store-spec =
+pub parse-tokens-spec : {M : Type 1} → statement M
+parse-tokens-spec =
     tie.close
     (tie.spec
     parse-lent-requires
