@@ -17,7 +17,7 @@ use Rattle.edits.specs.Keeping.{Edit, edited, Altered}
 use Rattle.edits.specs.Uniqueness.{altered-one}
 use Rattle.replies.specs.declared.Counts.{Counts}
 use Rattle.calls.specs.Order.{Called}
-use Rattle.calls.specs.Checks.{Holds}
+use Rattle.calls.specs.Checks.{AreaHolds}
 use Rattle.calls.specs.OrderLaws.{Settled, called-one, require-single}
 use Rattle.calls.specs.CheckLaws.{area-single, tree-single, sentence-single, parsed-single, given-settled}
 use Rattle.calls.specs.Prepare.{prepareWith, prepareCall}
@@ -66,7 +66,7 @@ module _ {G : Grammar} {S : ℕ} {e : Edit} {old : Forest} where
   altered-parses {new} l h =
       accepted-exactly S (edited e (yield old)) (size new) l .1 (record { tree = record { tree = new; derives = h .derives; yields = h .yields }; nodes = refl; fits = h .fits })
 
-  module _ (g : Prepared G) {tree : List ℕ} (o : Holds G S tree old) where
+  module _ (g : Prepared G) {tree : List ℕ} (o : AreaHolds G S tree old) where
     renewal-one : (c d : Counts) (v v' : List ℕ) → Renewal G S e old c v → Renewal G S e old d v' → (c ≡ d) × (v ≡ v')
     renewal-one c d v v' h k =
         let q = altered-one g (o .derives) (h .altered) (k .altered) in

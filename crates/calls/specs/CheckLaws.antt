@@ -25,7 +25,7 @@ use Rattle.replies.specs.declared.Reason.the-variants as reasons
 use Rattle.replies.specs.declared.Reply.the-variants.{Refused}
 use Rattle.calls.specs.Order.{Call, Outcome, refused, passed, exactly, at}
 use Rattle.calls.specs.OrderLaws.{Single, Settled, find-single, none-single, placed-numbered, placed-one, placed-apart, passes, goes-by}
-use Rattle.calls.specs.Checks.{readable, given, Sized, area, Holds, treeIn, sentence, Rejected, wrong-syntax, no-room, parsed}
+use Rattle.calls.specs.Checks.{readable, given, Sized, area, AreaHolds, treeIn, sentence, Rejected, wrong-syntax, no-room, parsed}
 
 pub readable-single : {image : List ℕ} → Single (readable image)
 readable-single = record { finds = image-one; reason = λ f g. placed-one (λ k l. bad-one) f g; apart = λ i f. placed-apart (λ k. good-not-bad) i f }
@@ -37,13 +37,13 @@ pub area-single : {size : ℕ} → Single (area size)
 area-single = find-single (λ S S' h k. sized-one h k)
 
 -- a tree that an area holds is a valid one
-abbrev pub validOf : {G : Grammar} {S : ℕ} {b : List ℕ} {f : Forest} → Sized S (length b) → Holds G S b f → Valid G S b
+abbrev pub validOf : {G : Grammar} {S : ℕ} {b : List ℕ} {f : Forest} → Sized S (length b) → AreaHolds G S b f → Valid G S b
 validOf {f = f} z h = record { some = z .some; few = z .few; tree = f; derives = h .derives; area = h .area }
 
 pub valid-sized : {G : Grammar} {S : ℕ} {b : List ℕ} → Valid G S b → Sized S (length b)
 valid-sized v = record { some = v .some; few = v .few; long = v .area .long }
 
-pub valid-holds : {G : Grammar} {S : ℕ} {b : List ℕ} (v : Valid G S b) → Holds G S b (v .tree)
+pub valid-holds : {G : Grammar} {S : ℕ} {b : List ℕ} (v : Valid G S b) → AreaHolds G S b (v .tree)
 valid-holds v = record { derives = v .derives; area = v .area }
 
 pub tree-single : {G : Grammar} {S : ℕ} {b : List ℕ} → Sized S (length b) → Single (treeIn G S b)

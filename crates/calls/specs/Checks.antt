@@ -14,13 +14,13 @@ use Rattle.plain.specs.Plain.{accepted, syntax, noRoom, Parses}
 use Rattle.plain.specs.Tokens.{tokenSize, Sentence, BadToken}
 use Rattle.replies.specs.declared.Reason.{Reason}
 use Rattle.replies.specs.declared.Reason.the-variants as reasons
-use Rattle.calls.specs.Order.{Check, Call, _>>=_, _>>_, Placed, require, find, none}
+use Rattle.calls.specs.Order.{Check, Call, _>>=_, _>>_, WithPlace, require, find, none}
 
 -- ---- replies 1 to 3: the grammar
 
 -- 1: "a grammar record is bad, or the image is empty"; "byte offset of the first bad one"
 abbrev pub readable : List ℕ → Check Grammar
-readable image = record { Pass = Image image; Fail = Placed (Bad image) reasons.BadGrammar }
+readable image = record { Pass = Image image; Fail = WithPlace (Bad image) reasons.BadGrammar }
 
 -- every call begins with these
 abbrev pub given : {B : Type 0} → List ℕ → (Grammar → Call B) → Call B
@@ -53,13 +53,13 @@ abbrev pub area : ℕ → Check ℕ
 area long = find (λ S. Sized S long) reasons.WrongTree
 
 -- the area of S slots is that of the derivation tree f
-pub record Holds (G : Grammar) (S : ℕ) (b : List ℕ) (f : Forest) : Type 0 where
+pub record AreaHolds (G : Grammar) (S : ℕ) (b : List ℕ) (f : Forest) : Type 0 where
   pub derives : Derives G (G .start ∷ []) f
   pub area : Area S f b
 
 -- "in edit and read back also no valid tree"
 abbrev pub treeIn : Grammar → ℕ → List ℕ → Check Forest
-treeIn G S tree = find (Holds G S tree) reasons.WrongTree
+treeIn G S tree = find (AreaHolds G S tree) reasons.WrongTree
 
 -- ---- reply 6: the work area, of `room` bytes, for a tree area of `long` bytes
 
@@ -71,7 +71,7 @@ workFor long room = require (workAreas * long ≤ room) (reasons.ShortWork (work
 
 -- "token bytes end inside a record, or a kind is not 1..t"; "first bad record, from 0"
 abbrev pub sentence : ℕ → List ℕ → Check (List Token)
-sentence t bytes = record { Pass = Sentence t bytes; Fail = Placed (BadToken t bytes) reasons.BadToken }
+sentence t bytes = record { Pass = Sentence t bytes; Fail = WithPlace (BadToken t bytes) reasons.BadToken }
 
 -- ---- reply 8: the range
 

@@ -34,16 +34,16 @@ use Rattle.calls.specs.Verdicts.{Answers, Decided, by-zero, by-nine, dec
 -- ---- prepare
 
 -- the image is that of a grammar that is well formed, has no useless nonterminal and is LL(1)
-pub record Good (image : List ℕ) : Type 0 where
+pub record FitImage (image : List ℕ) : Type 0 where
   pub grammar : Grammar
   pub fit : Fit image grammar
 
 module _ {image : List ℕ} {long : ℕ} {tables tables' : List ℕ} {r : Reply} (h : Outcome (prepareCall image long) tables r tables') where
-  prepare-good : numberOf r ≡ 0 → Good image
+  prepare-good : numberOf r ≡ 0 → FitImage image
   prepare-good e = let (G, f, _) = given-by (prepareWith long) (λ k a b x. omega (arith, e, a, x)) h in record { grammar = G; fit = f }
 
   -- demand 2: "A grammar is prepared exactly when it is well formed, has no useless nonterminal and is LL(1)"
-  pub prepare-exactly : long ≡ tablesSize → (numberOf r ≡ 0) ↔ Good image
+  pub prepare-exactly : long ≡ tablesSize → (numberOf r ≡ 0) ↔ FitImage image
   prepare-exactly l = (prepare-good, λ g. let (c, e, _) = has-counts (passes require-single l (given-rest (prepareWith long) (g .fit) h)) in ap numberOf e)
 
   -- demand 2: "its tables are the ones defined": what reply 4 of parse and edit calls the grammar's tables is what prepare writes
@@ -57,7 +57,7 @@ module _ {image : List ℕ} {long : ℕ} {tables tables' : List ℕ} {r : Reply}
 
 -- of the exported call
 pub prepare-called : {image tables tables' slice slice' : List ℕ} → length tables ≡ tablesSize → wordSize ≤ length slice → Called (prepareCall image (length tables)) tables [] slice tables' [] slice'
-    → SaysZero slice' ↔ Good image
+    → SaysZero slice' ↔ FitImage image
 prepare-called l k h = zero-exactly k h (prepare-exactly (h .ends .outcome) l)
 
 -- ---- parse
@@ -82,12 +82,12 @@ store-storage : {G : Grammar} {S : ℕ} {w : List Token} {tree tree' : List ℕ}
 store-storage c e h = is-accepted e (has-passed (ap numberOf e) h .2)
 
 -- of an accepted parse: the sentence's tree, its counts and its area
-pub record Stores (image tables tokens : List ℕ) (room long : ℕ) (tree : List ℕ) (c : Counts) (tree' : List ℕ) : Type 0 where
+pub record ParseStores (image tables tokens : List ℕ) (room long : ℕ) (tree : List ℕ) (c : Counts) (tree' : List ℕ) : Type 0 where
   pub reached : ParseReached image tables tokens room long tree (Accepted c) tree'
   pub storage : Storage (reached .grammar) (reached .slots) (reached .sentence) c tree'
 
 -- of reply 9: the sentence's longest beginning that begins some sentence of the language
-pub record Stops (image tables tokens : List ℕ) (room long : ℕ) (tree : List ℕ) (place expected : ℕ) (tree' : List ℕ) : Type 0 where
+pub record ParseStops (image tables tokens : List ℕ) (room long : ℕ) (tree : List ℕ) (place expected : ℕ) (tree' : List ℕ) : Type 0 where
   pub reached : ParseReached image tables tokens room long tree (Refused (reasons.Syntax place expected)) tree'
   pub longest : Longest (reached .grammar) (reached .sentence) place
 
@@ -108,11 +108,11 @@ module _ {image tables tokens : List ℕ} {room long : ℕ} {tree : List ℕ} wh
   parse-accepted h e = let (c, q, _) = has-counts (has-passed e (parse-reached (by-zero e) h .last) .2) in (c, q)
 
   -- demand 2: "that tree is stored"
-  pub parse-stores : (c : Counts) (tree' : List ℕ) → Outcome (parseCall image tables tokens room long) tree (Accepted c) tree' → Stores image tables tokens room long tree c tree'
+  pub parse-stores : (c : Counts) (tree' : List ℕ) → Outcome (parseCall image tables tokens room long) tree (Accepted c) tree' → ParseStores image tables tokens room long tree c tree'
   parse-stores c tree' h = let x = parse-reached (by-zero refl) h in record { reached = x; storage = store-storage c refl (x .last) }
 
   -- "With reply 9, its place equals the number of tokens in the longest beginning of the sentence that also begins some sentence of the language"
-  pub parse-stops : (i e : ℕ) (tree' : List ℕ) → Outcome (parseCall image tables tokens room long) tree (Refused (reasons.Syntax i e)) tree' → Stops image tables tokens room long tree i e tree'
+  pub parse-stops : (i e : ℕ) (tree' : List ℕ) → Outcome (parseCall image tables tokens room long) tree (Refused (reasons.Syntax i e)) tree' → ParseStops image tables tokens room long tree i e tree'
   parse-stops i e tree' h =
       let x = parse-reached (by-nine refl) h in
       record { reached = x; longest = answered-place (x .fit .prepared) (store-answered (x .fit .prepared) (x .sized .some) (x .last)) i e refl }
@@ -126,7 +126,7 @@ module _ {image tables tokens : List ℕ} {room long : ℕ} {tree : List ℕ} wh
       (e .0, λ n. sym (q n) ∙ e .1)
 
 -- the area is a valid tree then
-abbrev pub stores-valid : {image tables tokens : List ℕ} {room long : ℕ} {tree : List ℕ} {c : Counts} {tree' : List ℕ} (x : Stores image tables tokens room long tree c tree')
+abbrev pub stores-valid : {image tables tokens : List ℕ} {room long : ℕ} {tree : List ℕ} {c : Counts} {tree' : List ℕ} (x : ParseStores image tables tokens room long tree c tree')
     → Valid (x .reached .grammar) (x .reached .slots) tree'
 stores-valid x =
     record { some = x .reached .sized .some; few = x .reached .sized .few; tree = x .storage .tree; derives = x .storage .stored .derives; area = x .storage .area }

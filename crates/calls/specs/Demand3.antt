@@ -31,14 +31,14 @@ use Rattle.replies.specs.declared.Reply.{Reply}
 use Rattle.replies.specs.declared.Reason.the-variants as reasons
 use Rattle.replies.specs.declared.Reply.the-variants.{Accepted, Refused}
 use Rattle.calls.specs.Order.{Outcome, Called}
-use Rattle.calls.specs.Checks.{Holds}
+use Rattle.calls.specs.Checks.{AreaHolds}
 use Rattle.calls.specs.Parse.{parseCall}
 use Rattle.calls.specs.Edit.{Renewal, renewCall, editWith, editCall}
 use Rattle.calls.specs.OrderLaws.{SaysZero, zero-exactly, require-single, exactly-numbered, placed-numbered, passes, goes-by, has-passed, has-counts, is-accepted}
 use Rattle.calls.specs.CheckLaws.{Fit, validOf, valid-sized, valid-holds, area-single, tree-single, sentence-single, given-rest, given-by}
 use Rattle.calls.specs.CallsUnique.{altered-parses}
 use Rattle.calls.specs.Verdicts.{Answers, Decided, by-zero, by-nine, decided-early, Alike, Answered, answered-exactly, answered-alike, answered-place, answered-fits, answered-zero, parsed-answered, accepted-size}
-use Rattle.calls.specs.Demand2.{Stores, parse-stores, parse-answered}
+use Rattle.calls.specs.Demand2.{ParseStores, parse-stores, parse-answered}
 
 -- ---- what edit has found
 
@@ -108,7 +108,7 @@ module _ {G : Grammar} {S : ℕ} {e : Edit} {old : Forest} {c : Counts} {tree' :
   adds-new : c .kept + c .made ≡ c .total
   adds-new = let a = x .altered in omega (arith, x .total, a .kept-count, a .made-count, kept-made (a .held), a .holding .long)
 
-  adds-old : {tree : List ℕ} → Prepared G → Holds G S tree old → c .kept + c .«given_up» ≡ size old
+  adds-old : {tree : List ℕ} → Prepared G → AreaHolds G S tree old → c .kept + c .«given_up» ≡ size old
   adds-old g v = let a = x .altered in omega (arith, a .kept-count, kept-given-up (v .area) (holding-held g (a .derives) (v .area) (a .holding)) (a .holding) (a .given-up))
 
 pub edit-renews : {image tables tokens : List ℕ} {place removed room : ℕ} {tree : List ℕ} (c : Counts) (tree' : List ℕ)
@@ -210,16 +210,16 @@ module _ {G : Grammar} {S : ℕ} {w : List Token} {image tables tokens tree : Li
       → Called (editCall image tables tokens place removed (length work) tree) tree work slice tree' work' slice' → SaysZero slice' ↔ ((n : ℕ) × Fitting G S sentence n)
   edit-called l k h = zero-exactly k h (edit-zero l (h .ends .outcome))
 
-record Fitted (G : Grammar) (bytes : List ℕ) (f : Forest) : Type 0 where
+record Spelt (G : Grammar) (bytes : List ℕ) (f : Forest) : Type 0 where
   spelt : Sentence (G .t) bytes (yield f)
   derives : Derives G (G .start ∷ []) f
 
 -- derivation trees of the same bytes are the same but for their slots
 same-trees : {image tables tree tokens tree' bytes area area' : List ℕ} {place removed room long : ℕ} {c d : Counts} (x : Renewed image tree place removed tokens c tree')
-    → (y : Stores image tables bytes room long area d area') → bytes ≡ tokenBytes (yield (x .new .tree)) → Same (x .new .tree) (y .storage .tree)
+    → (y : ParseStores image tables bytes room long area d area') → bytes ≡ tokenBytes (yield (x .new .tree)) → Same (x .new .tree) (y .storage .tree)
 same-trees {bytes = bytes} x y e =
     let q : x .grammar ≡ y .reached .grammar = image-one (x .fit .reads) (y .reached .fit .reads) in
-    let z : Fitted (x .grammar) bytes (y .storage .tree) = subst (λ (G : Grammar). Fitted G bytes (y .storage .tree)) (sym q) (record { spelt = rw (← y .storage .stored .yields) at (y .reached .spelt); derives = y .storage .stored .derives }) in
+    let z : Spelt (x .grammar) bytes (y .storage .tree) = subst (λ (G : Grammar). Spelt G bytes (y .storage .tree)) (sym q) (record { spelt = rw (← y .storage .stored .yields) at (y .reached .spelt); derives = y .storage .stored .derives }) in
     let w = sentence-one (rw (← e) at (valid-spelt (x .new))) (z .spelt) in
     tree-one (x .fit .prepared) (record { tree = x .new .tree; derives = x .new .derives; yields = refl }) (record { tree = y .storage .tree; derives = z .derives; yields = sym w })
 
@@ -228,7 +228,7 @@ same-trees {bytes = bytes} x y e =
 pub edit-same : {image tables tokens : List ℕ} {place removed room room' : ℕ} {tree tree' bytes area area' : List ℕ} (c : Counts) (r' : Reply)
     (h : Outcome (editCall image tables tokens place removed room tree) tree (Accepted c) tree') → workAreas * length tree ≤ room'
     → bytes ≡ tokenBytes (yield (edit-renews c tree' h .new .tree)) → Outcome (parseCall image tables bytes room' (length tree)) area r' area'
-    → (d : Counts) × (y : Stores image tables bytes room' (length tree) area d area') × (r' ≡ Accepted d) × (d .total ≡ c .total) × Same (edit-renews c tree' h .new .tree) (y .storage .tree)
+    → (d : Counts) × (y : ParseStores image tables bytes room' (length tree) area d area') × (r' ≡ Accepted d) × (d .total ≡ c .total) × Same (edit-renews c tree' h .new .tree) (y .storage .tree)
 edit-same {image} {tables} {room' = room'} {tree} {tree'} {bytes} {area} {area'} c r' h m e p =
     let x = edit-renews c tree' h in
     let y = edit-reached (by-zero refl) h in

@@ -45,13 +45,13 @@ pub data Tried {A B : Type 0} (c : Check A) (Next : A → Reply → B → Type 0
   refused : {p : Reason} → c .Fail p → Tried c Next before (Refused p) before
   passed : {x : A} {r : Reply} {after : B} → c .Pass x → Next x r after → Tried c Next before r after
 
-pub data Done {A B : Type 0} (h : Held A) (P : A → B → Type 0) : Reply → B → Type 0 where
-  accepted : {x : A} {after : B} → P x after → Done h P (h .reply x) after
+pub data Accepting {A B : Type 0} (h : Held A) (P : A → B → Type 0) : Reply → B → Type 0 where
+  accepting : {x : A} {after : B} → P x after → Accepting h P (h .reply x) after
 
 -- the reply, and the lent buffers after the call
 abbrev pub Outcome : {B : Type 0} → Call B → B → Reply → B → Type 0
 Outcome (try c next) before = Tried c (λ x. Outcome (next x) before) before
-Outcome (accept h P) before = Done h P
+Outcome (accept h P) before = Accepting h P
 
 -- with the work area: "Parse and edit, and any later call with a work area, leave the whole of it zero, whichever reply they give"
 pub record Ends {B : Type 0} (call : Call B) (before : B) (work : List ℕ) (r : Reply) (after : B) (work' : List ℕ) : Type 0 where
@@ -71,8 +71,8 @@ pub data Exactly (P : Type 0) (reason : Reason) : Reason → Type 0 where
   exactly : P → Exactly P reason reason
 
 -- the reason with a place of which P holds
-pub data Placed (P : ℕ → Type 0) (reason : ℕ → Reason) : Reason → Type 0 where
-  at : {k : ℕ} → P k → Placed P reason (reason k)
+pub data WithPlace (P : ℕ → Type 0) (reason : ℕ → Reason) : Reason → Type 0 where
+  at : {k : ℕ} → P k → WithPlace P reason (reason k)
 
 -- P must hold
 abbrev pub require : Type 0 → Reason → Check Unit
@@ -84,4 +84,4 @@ find {A} P reason = record { Pass = P; Fail = Exactly ((x : A) → P x → ⊥) 
 
 -- there must be no number of which P holds; the place is the lowest
 abbrev pub none : (ℕ → Type 0) → (ℕ → Reason) → Check Unit
-none P reason = record { Pass = λ _. (k : ℕ) → P k → ⊥; Fail = Placed (Lowest P) reason }
+none P reason = record { Pass = λ _. (k : ℕ) → P k → ⊥; Fail = WithPlace (Lowest P) reason }

@@ -14,7 +14,7 @@ use Rattle.replies.specs.declared.Counts.{Counts}
 use Rattle.replies.specs.declared.Reason.{Reason}
 use Rattle.replies.specs.declared.Reply.{Reply}
 use Rattle.replies.specs.declared.Reply.the-variants.{Accepted, Refused}
-use Rattle.calls.specs.Order.{Check, counts, Call, try, accept, Tried, refused, passed, Done, accepted, Outcome, Ends, Called, Exactly, exactly, Placed, at, require, find, none}
+use Rattle.calls.specs.Order.{Check, counts, Call, try, accept, Tried, refused, passed, Accepting, accepting, Outcome, Ends, Called, Exactly, exactly, WithPlace, at, require, find, none}
 
 -- ---- no second outcome
 
@@ -44,8 +44,8 @@ pub one-outcome : {B : Type 0} (call : Call B) → Settled call → (before : B)
 one-outcome (try c next) h before r s v w o o' = tried-one (h .0) (λ x p. one-outcome (next x) (h .1 x p) before) o o'
 one-outcome (accept held P) h before r s v w o o' = go o o'
   where
-    go : {r s : Reply} {v w : _} → Done held P r v → Done held P s w → (r ≡ s) × (v ≡ w)
-    go (accepted {x = x} {after = v} p) (accepted {x = y} {after = w} q) = let e = h x y v w p q in (ap (held .reply) (e .0), e .1)
+    go : {r s : Reply} {v w : _} → Accepting held P r v → Accepting held P s w → (r ≡ s) × (v ≡ w)
+    go (accepting {x = x} {after = v} p) (accepting {x = y} {after = w} q) = let e = h x y v w p q in (ap (held .reply) (e .0), e .1)
 
 module _ {B : Type 0} (call : Call B) (settled : Settled call) {before : B} {work : List ℕ} where
   -- "For every input a public call's contract determines reply and buffers completely"
@@ -80,8 +80,8 @@ refusal-keeps (try {A = A} c next) before r after e o = go (λ x k. refusal-keep
     go k (passed {x = x} q o) = k x o
 refusal-keeps (accept h P) before r after e o = go o e
   where
-    go : {r : Reply} {after : _} → Done h P r after → (numberOf r ≡ 0 → ⊥) → after ≡ before
-    go (accepted {x = x} q) e = absurd (e (h .number x))
+    go : {r : Reply} {after : _} → Accepting h P r after → (numberOf r ≡ 0 → ⊥) → after ≡ before
+    go (accepting {x = x} q) e = absurd (e (h .number x))
 
 -- with other earlier contents of the lent buffers the reply is the same, and where it is accepted so is what is left in them
 pub any-before : {B : Type 0} (call : Call B) (before other : B) (r : Reply) (after : B) → Outcome call before r after → (v : B) × Outcome call other r v × (numberOf r ≡ 0 → v ≡ after)
@@ -119,11 +119,11 @@ passes s p (refused f) = absurd (s .apart p f)
 passes {Next = Next} {after = after} {r = r} s p (passed q h) = subst (λ z. Next z r after) (s .finds q p) h
 
 -- every reason of the check has this number
-abbrev pub Numbered : {A : Type 0} → Check A → ℕ → Type 0
-Numbered c k = (p : Reason) → c .Fail p → numberOf (Refused p) ≡ k
+abbrev pub HasNumber : {A : Type 0} → Check A → ℕ → Type 0
+HasNumber c k = (p : Reason) → c .Fail p → numberOf (Refused p) ≡ k
 
 -- a check whose reasons have another number than the reply has passed
-pub goes-by : {A B : Type 0} {c : Check A} {Next : A → Reply → B → Type 0} {before after : B} {r : Reply} {k : ℕ} → Numbered c k → (numberOf r ≡ k → ⊥) → Tried c Next before r after
+pub goes-by : {A B : Type 0} {c : Check A} {Next : A → Reply → B → Type 0} {before after : B} {r : Reply} {k : ℕ} → HasNumber c k → (numberOf r ≡ k → ⊥) → Tried c Next before r after
     → (x : A) × c .Pass x × Next x r after
 goes-by n e (refused {p = p} f) = absurd (e (n p f))
 goes-by n e (passed {x = x} p h) = (x, p, h)
@@ -134,18 +134,18 @@ has-passed e (refused {p = p} f) = not-refused p e
 has-passed e (passed {x = x} p h) = (x, p, h)
 
 -- what an accepted reply holds
-pub has-counts : {B : Type 0} {P : Counts → B → Type 0} {after : B} {r : Reply} → Done counts P r after → (c : Counts) × (r ≡ Accepted c) × P c after
-has-counts (accepted {x = c} p) = (c, refl, p)
+pub has-counts : {B : Type 0} {P : Counts → B → Type 0} {after : B} {r : Reply} → Accepting counts P r after → (c : Counts) × (r ≡ Accepted c) × P c after
+has-counts (accepting {x = c} p) = (c, refl, p)
 
-pub is-accepted : {B : Type 0} {P : Counts → B → Type 0} {after : B} {r : Reply} {c : Counts} → r ≡ Accepted c → Done counts P r after → P c after
-is-accepted {P = P} {after} e (accepted {x = d} p) = subst (λ z. P z after) (cc) p
+pub is-accepted : {B : Type 0} {P : Counts → B → Type 0} {after : B} {r : Reply} {c : Counts} → r ≡ Accepted c → Accepting counts P r after → P c after
+is-accepted {P = P} {after} e (accepting {x = d} p) = subst (λ z. P z after) (cc) p
 
 -- ---- the kinds of checks: their numbers, and that they are single
 
 pub exactly-numbered : {P : Type 0} {reason : Reason} (p : Reason) → Exactly P reason p → numberOf (Refused p) ≡ numberOf (Refused reason)
 exactly-numbered p (exactly f) = refl
 
-pub placed-numbered : {P : ℕ → Type 0} {reason : ℕ → Reason} {n : ℕ} → ((k : ℕ) → numberOf (Refused (reason k)) ≡ n) → (p : Reason) → Placed P reason p → numberOf (Refused p) ≡ n
+pub placed-numbered : {P : ℕ → Type 0} {reason : ℕ → Reason} {n : ℕ} → ((k : ℕ) → numberOf (Refused (reason k)) ≡ n) → (p : Reason) → WithPlace P reason p → numberOf (Refused p) ≡ n
 placed-numbered e p (at {k = k} f) = e k
 
 pub require-single : {P : Type 0} {reason : Reason} → Single (require P reason)
@@ -167,10 +167,10 @@ find-single {A} {P} {reason} one = record { finds = λ {x} {y} p q. one x y p q;
     other {x} p (exactly f) = f x p
 
 module _ {P : ℕ → Type 0} {reason : ℕ → Reason} where
-  pub placed-one : ((k l : ℕ) → P k → P l → k ≡ l) → {p q : Reason} → Placed P reason p → Placed P reason q → p ≡ q
+  pub placed-one : ((k l : ℕ) → P k → P l → k ≡ l) → {p q : Reason} → WithPlace P reason p → WithPlace P reason q → p ≡ q
   placed-one one (at {k = k} f) (at {k = l} g) = ap reason (one k l f g)
 
-  pub placed-apart : {X : Type 0} → ((k : ℕ) → X → P k → ⊥) → {p : Reason} → X → Placed P reason p → ⊥
+  pub placed-apart : {X : Type 0} → ((k : ℕ) → X → P k → ⊥) → {p : Reason} → X → WithPlace P reason p → ⊥
   placed-apart not x (at {k = k} f) = not k x f
 
 pub none-single : {P : ℕ → Type 0} {reason : ℕ → Reason} → Single (none P reason)

@@ -16,7 +16,7 @@ use Rattle.edits.specs.Keeping.{editOf, edited}
 use Rattle.replies.specs.declared.Counts.{Counts}
 use Rattle.replies.specs.declared.Reply.{Reply}
 use Rattle.replies.specs.declared.Reply.the-variants.{Accepted}
-use Rattle.calls.specs.Order.{Outcome, passed, accepted}
+use Rattle.calls.specs.Order.{Outcome, passed, accepting}
 use Rattle.calls.specs.Checks.{needed}
 use Rattle.calls.specs.Parse.{parseCall}
 use Rattle.calls.specs.Edit.{editCall}
@@ -36,7 +36,7 @@ read-back-one {image} {tree} {output} r s v w h k = one-outcome (readBackCall im
 pub reads-tree : {image tree : List ℕ} {G : Grammar} {S : ℕ} → Fit image G → (v : Valid G S tree) (output : List ℕ) → needed (v .tree) ≤ length output
     → Outcome (readBackCall image tree output) output (Accepted (readCounts (size (v .tree)))) (tokenBytes (yield (v .tree)) ++ drop (needed (v .tree)) output)
 reads-tree {tree = tree} f v output l =
-    given-passed (readBackWith tree output) f (passed (valid-sized v) (passed (valid-holds v) (passed l (accepted (record { counts = refl; bytes = refl })))))
+    given-passed (readBackWith tree output) f (passed (valid-sized v) (passed (valid-holds v) (passed l (accepting (record { counts = refl; bytes = refl })))))
 
 -- ---- parse, then read back
 

@@ -16,7 +16,7 @@ use Rattle.replies.specs.declared.Counts.{Counts}
 use Rattle.replies.specs.declared.Reply.{Reply}
 use Rattle.replies.specs.declared.Reason.the-variants as reasons
 use Rattle.replies.specs.declared.Reply.the-variants.{Accepted, Refused}
-use Rattle.calls.specs.Order.{counts, Tried, refused, passed, Done, accepted as done}
+use Rattle.calls.specs.Order.{counts, Tried, refused, passed, Accepting, accepting}
 use Rattle.calls.specs.Checks.{wrong-syntax, no-room, parsed}
 
 -- the reply that a verdict gives
@@ -63,10 +63,10 @@ pub record Answered (G : Grammar) (S : ℕ) (w : List Token) (r : Reply) : Type 
 module _ {G : Grammar} {S : ℕ} {w : List Token} where
   -- the last checks of a call whose total is the number of nodes
   pub parsed-answered : {B : Type 0} {P : Counts → B → Type 0} {before after : B} {r : Reply} → ((n : ℕ) (c : Counts) (v : B) → Parses G S w (accepted n) → P c v → c .total ≡ n)
-      → Tried (parsed G S w) (λ _. Done counts P) before r after → Answered G S w r
+      → Tried (parsed G S w) (λ _. Accepting counts P) before r after → Answered G S w r
   parsed-answered t (refused (wrong-syntax {i = i} {e = e} p)) = record { verdict = syntax i e; parses = p; answers = Answers.nine }
   parsed-answered t (refused (no-room p)) = record { verdict = noRoom; parses = p; answers = Answers.ten }
-  parsed-answered t (passed {x = n} p (done {x = c} {after = v} q)) = record { verdict = accepted n; parses = p; answers = Answers.yes (t n c v p q) }
+  parsed-answered t (passed {x = n} p (accepting {x = c} {after = v} q)) = record { verdict = accepted n; parses = p; answers = Answers.yes (t n c v p q) }
 
   module _ (g : Prepared G) where
     -- the size of a tree is the count of the verdict

@@ -22,7 +22,7 @@ use Rattle.replies.specs.declared.Counts.{Counts}
 use Rattle.replies.specs.declared.Reply.{Reply}
 use Rattle.replies.specs.declared.Reason.the-variants as reasons
 use Rattle.replies.specs.declared.Reply.the-variants.{Accepted, Refused}
-use Rattle.calls.specs.Order.{Outcome, refused, passed, accepted as done}
+use Rattle.calls.specs.Order.{Outcome, refused, passed, accepting}
 use Rattle.calls.specs.Checks.{wrong-syntax, no-room}
 use Rattle.calls.specs.Edit.{renewCall}
 use Rattle.calls.specs.CallsUnique.{altered-parses}
@@ -109,7 +109,7 @@ module _ {G : Grammar} {S : ℕ} {e : Edit} {tree : List ℕ} {r : Alteration} {
       go l c (Alters.altered {kept = k} new y u) q =
           let s : size new ≡ total = cc in
           let f : k ≡ kept = cc in
-          rw (← s, ← f, c) (passed (altered-parses l y) (done (record { new = new; altered = y; total = refl; area = u })))
+          rw (← s, ← f, c) (passed (altered-parses l y) (accepting (record { new = new; altered = y; total = refl; area = u })))
       go l c (Alters.wrong-syntax p) q = never (cc)
       go l c (Alters.no-room p) q = never (cc)
 

@@ -27,7 +27,7 @@ use Rattle.replies.specs.declared.Reply.{Reply}
 use Rattle.replies.specs.declared.Reason.{Reason}
 use Rattle.replies.specs.declared.Reason.the-variants as reasons
 use Rattle.replies.specs.declared.Reply.the-variants.{Accepted, Refused}
-use Rattle.calls.specs.Order.{Outcome, refused, passed, accepted, exactly, at}
+use Rattle.calls.specs.Order.{Outcome, refused, passed, accepting, exactly, at}
 use Rattle.calls.specs.Checks.{Sized, area, wrong-syntax, no-room}
 use Rattle.calls.specs.Parse.{upFrom, Stored, parseCounts, storeCall, parseWith, parseCall}
 use Rattle.calls.specs.CheckLaws.{Fit, given-passed}
@@ -98,7 +98,7 @@ module _ (rows : List ℕ) (head : Head) (S : ℕ) (b : List ℕ) (m o : ℕ) (w
       }
 
   pub store-done : (tree tree' : List ℕ) → Area S (build (arityIn rows) es) tree' → Outcome (storeCall G S (tokensFrom b m 0)) tree (Accepted (parseCounts o)) tree'
-  store-done tree tree' a = passed (d .parses) (accepted (record { tree = forest .0; stored = done-stored; counts = ap parseCounts (sym sized); area = rw built at a }))
+  store-done tree tree' a = passed (d .parses) (accepting (record { tree = forest .0; stored = done-stored; counts = ap parseCounts (sym sized); area = rw built at a }))
 
 -- ---- replies 9 and 10
 

@@ -8,7 +8,7 @@ use Rattle.replies.specs.Reply.{noCounts}
 use Rattle.replies.specs.declared.Reason.{Reason}
 use Rattle.replies.specs.declared.Reason.the-variants.{WrongTables}
 use Rattle.replies.specs.declared.Reply.the-variants.{Accepted, Refused}
-use Rattle.calls.specs.Order.{Outcome, refused, passed, accepted, exactly}
+use Rattle.calls.specs.Order.{Outcome, refused, passed, accepting, exactly}
 use Rattle.calls.specs.Prepare.{prepareWith, prepareCall}
 use Rattle.calls.specs.CheckLaws.{Fit, given-passed}
 use Rattle.kindlesap.specs.declared.checks.GrammarChecked.{GrammarChecked}
@@ -24,4 +24,4 @@ module _ {image : List ℕ} {G : Grammar} (f : Fit image G) (size : ℕ) (tables
   prepare-4 n = given-passed (prepareWith size) f (refused (exactly n))
 
   pub prepare-done : (tables' : List ℕ) → size ≡ tablesSize → Tables G tables' → Outcome (prepareCall image size) tables (Accepted noCounts) tables'
-  prepare-done tables' e t = given-passed (prepareWith size) f (passed e (accepted (refl, t)))
+  prepare-done tables' e t = given-passed (prepareWith size) f (passed e (accepting (refl, t)))

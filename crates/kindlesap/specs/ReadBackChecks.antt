@@ -20,7 +20,7 @@ use Rattle.replies.specs.declared.Reply.{Reply}
 use Rattle.replies.specs.declared.Reason.{Reason}
 use Rattle.replies.specs.declared.Reason.the-variants as reasons
 use Rattle.replies.specs.declared.Reply.the-variants.{Accepted, Refused}
-use Rattle.calls.specs.Order.{Outcome, refused, passed, accepted, exactly}
+use Rattle.calls.specs.Order.{Outcome, refused, passed, accepting, exactly}
 use Rattle.calls.specs.Checks.{Sized, area, needed}
 use Rattle.calls.specs.ReadBack.{readCounts, readBackWith, readBackCall}
 use Rattle.calls.specs.CheckLaws.{Fit, validOf, valid-sized, valid-holds, given-passed}
@@ -65,4 +65,4 @@ module _ (rows : List ℕ) (head : Head) {image : List ℕ} (f : Fit image (gram
         let a : Added w output output' 0 j = rw t at (u .added) in
         let q : tokenSize * j ≡ needed (h .valid .tree) = omega (arith, a .count) in
         let s : output' ≡ tokenBytes w ++ drop (needed (h .valid .tree)) output = rw (← q) (a .is) in
-        by-3 (passed (valid-sized (h .valid)) (passed (valid-holds (h .valid)) (passed (omega (arith, counted, l)) (accepted (record { counts = ap readCounts (h .count); bytes = s })))))
+        by-3 (passed (valid-sized (h .valid)) (passed (valid-holds (h .valid)) (passed (omega (arith, counted, l)) (accepting (record { counts = ap readCounts (h .count); bytes = s })))))

@@ -15,7 +15,7 @@ use Rattle.plain.specs.Tokens.{tokenBytes, Sentence}
 use Rattle.replies.specs.declared.Reply.{Reply}
 use Rattle.replies.specs.declared.Reason.the-variants.{Syntax, NoRoom}
 use Rattle.replies.specs.declared.Reply.the-variants.{Accepted, Refused}
-use Rattle.calls.specs.Order.{Call, Outcome, Ends, refused, passed, accepted as done}
+use Rattle.calls.specs.Order.{Call, Outcome, Ends, refused, passed, accepting}
 use Rattle.calls.specs.Checks.{Sized, wrong-syntax, no-room}
 use Rattle.calls.specs.Parse.{upFrom, Stored, parseCounts, Storage, parseWith, parseCall}
 use Rattle.calls.specs.CheckLaws.{given-passed}
@@ -94,7 +94,7 @@ module _ {S : ℕ} {ks : List ℕ} (x : Given S ks) where
         nodes = q .2;
         bytes = b .0;
         area = b .1;
-        outcome = answered (passed reference-tables (passed (x .sized) (passed (x .long) (passed (x .spelt) (passed p (done d))))));
+        outcome = answered (passed reference-tables (passed (x .sized) (passed (x .long) (passed (x .spelt) (passed p (accepting d))))));
       }
   ends-as (syntax i e) p = answered (passed reference-tables (passed (x .sized) (passed (x .long) (passed (x .spelt) (refused (wrong-syntax p))))))
   ends-as noRoom p = answered (passed reference-tables (passed (x .sized) (passed (x .long) (passed (x .spelt) (refused (no-room p))))))

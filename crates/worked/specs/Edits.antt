@@ -25,7 +25,7 @@ use Rattle.edits.specs.Giving.{holding-held, given-spread}
 use Rattle.replies.specs.declared.Reply.{Reply}
 use Rattle.replies.specs.declared.Reason.the-variants.{BeyondTokens, Syntax}
 use Rattle.replies.specs.declared.Reply.the-variants.{Accepted, Refused}
-use Rattle.calls.specs.Order.{Call, _>>_, Outcome, refused, passed, accepted, exactly}
+use Rattle.calls.specs.Order.{Call, _>>_, Outcome, refused, passed, accepting, exactly}
 use Rattle.calls.specs.Checks.{range, wrong-syntax}
 use Rattle.calls.specs.Edit.{renewCall, editWith}
 use Rattle.calls.specs.CheckLaws.{valid-sized, valid-holds, given-passed}
@@ -226,7 +226,7 @@ module _ {o : OldTree} {new : List ℕ} (x : Setting o new) {place removed : ℕ
       → Replies x place removed (Accepted (record { total = size N; kept = k; made = m; «given_up» = u })) b
   accepts b i c =
       let p = altered-parses (x .some) a in
-      replied x place removed (passed i (passed p (accepted (record { new = N; altered = a; total = refl; area = c }))))
+      replied x place removed (passed i (passed p (accepting (record { new = N; altered = a; total = refl; area = c }))))
 
 pub edit-says : (r : Row) (olds : List Cell) → Found r olds → (x : Setting (r .old) (r .inserted)) → Remade r x
 unfolding facts
