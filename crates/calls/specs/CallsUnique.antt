@@ -1,4 +1,5 @@
--- No second outcome: each call's checks find one thing or refuse with one reason, and one thing only is accepted; so each exported call leaves one thing only in every buffer.
+-- No second outcome: each call's checks find one thing or refuse with one reason, and one thing only is accepted; so
+-- each exported call leaves one thing only in every buffer.
 use Prim.Native.Nat.{ℕ, _≤_}
 use mathlib.Core.Path.{_≡_, refl, sym, ap, _∙_, subst}
 use mathlib.Core.List.{List, []}
@@ -26,7 +27,8 @@ use Rattle.calls.specs.Edit.{Renewal, renewCall, editWith, editCall}
 use Rattle.calls.specs.ReadBack.{readBackWith, readBackCall}
 
 pub prepare-settled : (image : List ℕ) (long : ℕ) → Settled (prepareCall image long)
-prepare-settled image long = given-settled (prepareWith long) (λ G g. (require-single, λ _ l c d v w h k. (h .0 ∙ sym (k .0), tables-one g (h .1) (k .1))))
+prepare-settled image long =
+    given-settled (prepareWith long) (λ G g. (require-single, λ _ l c d v w h k. (h .0 ∙ sym (k .0), tables-one g (h .1) (k .1))))
 
 -- ---- parse
 
@@ -37,7 +39,8 @@ module _ {G : Grammar} {S : ℕ} {w : List Token} where
 
   -- then the plain parse accepts it
   pub stored-parses : {f : Forest} → 1 ≤ S → Stored G S w f → Parses G S w (accepted (size f))
-  stored-parses {f} l h = accepted-exactly S w (size f) l .1 (record { tree = stored-tree h; nodes = refl; fits = h .fits })
+  stored-parses {f} l h =
+      accepted-exactly S w (size f) l .1 (record { tree = stored-tree h; nodes = refl; fits = h .fits })
 
   module _ (g : Prepared G) where
     -- and a sentence is stored in one way only
@@ -62,7 +65,8 @@ parse-settled image tables tokens room long =
 
 module _ {G : Grammar} {S : ℕ} {e : Edit} {old : Forest} where
   -- the plain parse accepts the sentence of the new tree
-  pub altered-parses : {new : Forest} {kept made up : ℕ} → 1 ≤ S → Altered G S e old new kept made up → Parses G S (edited e (yield old)) (accepted (size new))
+  pub altered-parses : {new : Forest} {kept made up : ℕ} → 1 ≤ S → Altered G S e old new kept made up
+      → Parses G S (edited e (yield old)) (accepted (size new))
   altered-parses {new} l h =
       accepted-exactly S (edited e (yield old)) (size new) l .1 (record { tree = record { tree = new; derives = h .derives; yields = h .yields }; nodes = refl; fits = h .fits })
 
@@ -76,7 +80,8 @@ module _ {G : Grammar} {S : ℕ} {e : Edit} {old : Forest} where
     pub renew-settled : Settled (renewCall G S e old)
     renew-settled = (parsed-single g, λ n p. renewal-one)
 
-pub edit-settled : (image tables tokens : List ℕ) (place removed room : ℕ) (tree : List ℕ) → Settled (editCall image tables tokens place removed room tree)
+pub edit-settled : (image tables tokens : List ℕ) (place removed room : ℕ) (tree : List ℕ)
+    → Settled (editCall image tables tokens place removed room tree)
 edit-settled image tables tokens place removed room tree =
     given-settled (editWith tables tokens place removed room tree) (λ G g. (require-single, λ _ t. (area-single, λ S z. (tree-single z, λ old o. (require-single, λ _ l. (sentence-single, λ w s. (require-single, λ _ i. renew-settled g o)))))))
 
@@ -89,21 +94,32 @@ read-back-settled image tree output =
 -- ---- the exported calls
 
 module _ {image slice slice' slice'' : List ℕ} where
-  pub prepare-called-one : {tables tables' tables'' : List ℕ} → Called (prepareCall image (length tables)) tables [] slice tables' [] slice'
-      → Called (prepareCall image (length tables)) tables [] slice tables'' [] slice'' → (tables' ≡ tables'') × (slice' ≡ slice'')
-  prepare-called-one {tables} h k = let e = called-one (prepareCall image (length tables)) (prepare-settled image (length tables)) h k in (e .0, e .2)
+  pub prepare-called-one : {tables tables' tables'' : List ℕ}
+      → Called (prepareCall image (length tables)) tables [] slice tables' [] slice'
+      → Called (prepareCall image (length tables)) tables [] slice tables'' [] slice''
+      → (tables' ≡ tables'') × (slice' ≡ slice'')
+  prepare-called-one {tables} h k =
+      let e = called-one (prepareCall image (length tables)) (prepare-settled image (length tables)) h k in
+      (e .0, e .2)
 
-  pub parse-called-one : {tables tokens tree work tree' tree'' work' work'' : List ℕ} → Called (parseCall image tables tokens (length work) (length tree)) tree work slice tree' work' slice'
-      → Called (parseCall image tables tokens (length work) (length tree)) tree work slice tree'' work'' slice'' → (tree' ≡ tree'') × (work' ≡ work'') × (slice' ≡ slice'')
+  pub parse-called-one : {tables tokens tree work tree' tree'' work' work'' : List ℕ}
+      → Called (parseCall image tables tokens (length work) (length tree)) tree work slice tree' work' slice'
+      → Called (parseCall image tables tokens (length work) (length tree)) tree work slice tree'' work'' slice''
+      → (tree' ≡ tree'') × (work' ≡ work'') × (slice' ≡ slice'')
   parse-called-one {tables} {tokens} {tree} {work} h k =
       called-one (parseCall image tables tokens (length work) (length tree)) (parse-settled image tables tokens (length work) (length tree)) h k
 
   pub edit-called-one : {tables tree tokens work tree' tree'' work' work'' : List ℕ} (place removed : ℕ)
       → Called (editCall image tables tokens place removed (length work) tree) tree work slice tree' work' slice'
-      → Called (editCall image tables tokens place removed (length work) tree) tree work slice tree'' work'' slice'' → (tree' ≡ tree'') × (work' ≡ work'') × (slice' ≡ slice'')
+      → Called (editCall image tables tokens place removed (length work) tree) tree work slice tree'' work'' slice''
+      → (tree' ≡ tree'') × (work' ≡ work'') × (slice' ≡ slice'')
   edit-called-one {tables} {tree} {tokens} {work} place removed h k =
       called-one (editCall image tables tokens place removed (length work) tree) (edit-settled image tables tokens place removed (length work) tree) h k
 
-  pub read-back-called-one : {tree output output' output'' : List ℕ} → Called (readBackCall image tree output) output [] slice output' [] slice'
-      → Called (readBackCall image tree output) output [] slice output'' [] slice'' → (output' ≡ output'') × (slice' ≡ slice'')
-  read-back-called-one {tree} {output} h k = let e = called-one (readBackCall image tree output) (read-back-settled image tree output) h k in (e .0, e .2)
+  pub read-back-called-one : {tree output output' output'' : List ℕ}
+      → Called (readBackCall image tree output) output [] slice output' [] slice'
+      → Called (readBackCall image tree output) output [] slice output'' [] slice''
+      → (output' ≡ output'') × (slice' ≡ slice'')
+  read-back-called-one {tree} {output} h k =
+      let e = called-one (readBackCall image tree output) (read-back-settled image tree output) h k in
+      (e .0, e .2)

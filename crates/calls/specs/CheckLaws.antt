@@ -37,7 +37,8 @@ pub area-single : {size : ℕ} → Single (area size)
 area-single = find-single (λ S S' h k. sized-one h k)
 
 -- a tree that an area holds is a valid one
-abbrev pub validOf : {G : Grammar} {S : ℕ} {b : List ℕ} {f : Forest} → Sized S (length b) → AreaHolds G S b f → Valid G S b
+abbrev pub validOf : {G : Grammar} {S : ℕ} {b : List ℕ} {f : Forest} → Sized S (length b) → AreaHolds G S b f
+    → Valid G S b
 validOf {f = f} z h = record { some = z .some; few = z .few; tree = f; derives = h .derives; area = h .area }
 
 pub valid-sized : {G : Grammar} {S : ℕ} {b : List ℕ} → Valid G S b → Sized S (length b)
@@ -64,7 +65,8 @@ zeros-no-tree n v =
     omega (arith, e, z)
 
 -- so that a call which looks for one refuses it
-pub zeros-refused : {G : Grammar} {S : ℕ} (n : ℕ) → Sized S (length (zeros n)) → treeIn G S (zeros n) .Fail reasons.WrongTree
+pub zeros-refused : {G : Grammar} {S : ℕ} (n : ℕ) → Sized S (length (zeros n))
+    → treeIn G S (zeros n) .Fail reasons.WrongTree
 zeros-refused n z = exactly (λ f h. zeros-no-tree n (validOf z h))
 
 pub sentence-single : {t : ℕ} {bytes : List ℕ} → Single (sentence t bytes)
@@ -94,22 +96,28 @@ pub record Fit (image : List ℕ) (G : Grammar) : Type 0 where
 pub data Unfit (image : List ℕ) : Reason → Type 0 where
   bad-image : {k : ℕ} → Bad image k → Unfit image (reasons.BadGrammar k)
   useless : {G : Grammar} {M : ℕ} → Image image G → Lowest (Useless G) M → Unfit image (reasons.UselessSymbol M)
-  conflict : {G : Grammar} {M : ℕ} → Image image G → ((N : ℕ) → Useless G N → ⊥) → Lowest (Conflict G) M → Unfit image (reasons.NotLl1 M)
+  conflict : {G : Grammar} {M : ℕ} → Image image G → ((N : ℕ) → Useless G N → ⊥) → Lowest (Conflict G) M
+      → Unfit image (reasons.NotLl1 M)
 
 module _ {B : Type 0} {image : List ℕ} (next : Grammar → Call B) where
   pub given-settled : ((G : Grammar) → Prepared G → Settled (next G)) → Settled (given image next)
-  given-settled h = (readable-single, λ G i. (none-single, λ _ u. (none-single, λ _ l. h G (record { formed = i .formed; useful = u; ll1 = l }))))
+  given-settled h =
+      (readable-single, λ G i. (none-single, λ _ u. (none-single, λ _ l. h G (record { formed = i .formed; useful = u; ll1 = l }))))
 
   module _ {before : B} {r : Reply} {after : B} where
     -- with a grammar that passes, the call is the rest of it
-    pub given-rest : {G : Grammar} → Fit image G → Outcome (given image next) before r after → Outcome (next G) before r after
-    given-rest f h = passes none-single (f .prepared .ll1) (passes none-single (f .prepared .useful) (passes readable-single (f .reads) h))
+    pub given-rest : {G : Grammar} → Fit image G → Outcome (given image next) before r after
+        → Outcome (next G) before r after
+    given-rest f h =
+        passes none-single (f .prepared .ll1) (passes none-single (f .prepared .useful) (passes readable-single (f .reads) h))
 
-    pub given-passed : {G : Grammar} → Fit image G → Outcome (next G) before r after → Outcome (given image next) before r after
+    pub given-passed : {G : Grammar} → Fit image G → Outcome (next G) before r after
+        → Outcome (given image next) before r after
     given-passed f h = passed (f .reads) (passed (f .prepared .useful) (passed (f .prepared .ll1) h))
 
     -- a call whose reply is none of 1 to 3 has such a grammar
-    pub given-by : ((k : ℕ) → 1 ≤ k → k ≤ 3 → numberOf r ≡ k → ⊥) → Outcome (given image next) before r after → (G : Grammar) × Fit image G × Outcome (next G) before r after
+    pub given-by : ((k : ℕ) → 1 ≤ k → k ≤ 3 → numberOf r ≡ k → ⊥) → Outcome (given image next) before r after
+        → (G : Grammar) × Fit image G × Outcome (next G) before r after
     given-by n h =
         let (G, i, o) = goes-by (placed-numbered (λ k. refl)) (n 1 (omega arith) (omega arith)) h in
         let (_, u, o') = goes-by (placed-numbered (λ k. refl)) (n 2 (omega arith) (omega arith)) o in

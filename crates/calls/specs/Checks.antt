@@ -26,7 +26,9 @@ readable image = record { Pass = Image image; Fail = WithPlace (Bad image) reaso
 abbrev pub given : {B : Type 0} → List ℕ → (Grammar → Call B) → Call B
 given image next = do
   G ← readable image  -- 1
-  none (Useless G) reasons.UselessSymbol  -- 2: "a nonterminal derives no terminal string (the empty one counts), or no string derived from the start holds it"; "lowest such symbol"
+  -- 2: "a nonterminal derives no terminal string (the empty one counts), or no string derived from the start holds it";
+  -- "lowest such symbol"
+  none (Useless G) reasons.UselessSymbol
   none (Conflict G) reasons.NotLl1  -- 3: "not LL(1)"; "lowest nonterminal in conflict"
   next G
 

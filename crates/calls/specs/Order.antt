@@ -1,4 +1,5 @@
--- Meaning: a call is the checks that it tries, in their order, and what it accepts. Document 01: "They are tried in this order, each call taking those that concern it".
+-- Meaning: a call is the checks that it tries, in their order, and what it accepts. Document 01: "They are tried in
+-- this order, each call taking those that concern it".
 use Prim.Native.Nat.{ℕ}
 use mathlib.Core.Path.{_≡_, refl}
 use mathlib.Core.List.{List}
@@ -40,7 +41,8 @@ _>>_ c next = try c (λ _. next)
 
 -- ---- how it ends
 
--- a check and the rest of the call; "Any refusal, also of a call added later, leaves every lent buffer but the work area unchanged"
+-- a check and the rest of the call; "Any refusal, also of a call added later, leaves every lent buffer but the work
+-- area unchanged"
 pub data Tried {A B : Type 0} (c : Check A) (Next : A → Reply → B → Type 0) (before : B) : Reply → B → Type 0 where
   refused : {p : Reason} → c .Fail p → Tried c Next before (Refused p) before
   passed : {x : A} {r : Reply} {after : B} → c .Pass x → Next x r after → Tried c Next before r after
@@ -53,13 +55,17 @@ abbrev pub Outcome : {B : Type 0} → Call B → B → Reply → B → Type 0
 Outcome (try c next) before = Tried c (λ x. Outcome (next x) before) before
 Outcome (accept h P) before = Accepting h P
 
--- with the work area: "Parse and edit, and any later call with a work area, leave the whole of it zero, whichever reply they give"
-pub record Ends {B : Type 0} (call : Call B) (before : B) (work : List ℕ) (r : Reply) (after : B) (work' : List ℕ) : Type 0 where
+-- with the work area: "Parse and edit, and any later call with a work area, leave the whole of it zero, whichever reply
+-- they give"
+pub record Ends {B : Type 0} (call : Call B) (before : B) (work : List ℕ) (r : Reply) (after : B)
+    (work' : List ℕ) : Type 0 where
   pub outcome : Outcome call before r after
   pub cleared : work' ≡ zeros (length work)
 
--- with the slice for the reply, which gets the reply's bytes, "as much as fits"; a call that has no work area has an empty one here
-pub record Called {B : Type 0} (call : Call B) (before : B) (work slice : List ℕ) (after : B) (work' slice' : List ℕ) : Type 0 where
+-- with the slice for the reply, which gets the reply's bytes, "as much as fits"; a call that has no work area has an
+-- empty one here
+pub record Called {B : Type 0} (call : Call B) (before : B) (work slice : List ℕ) (after : B)
+    (work' slice' : List ℕ) : Type 0 where
   pub reply : Reply
   pub ends : Ends call before work reply after work'
   pub written : slice' ≡ copied slice 0 (replyBytes reply)

@@ -38,7 +38,8 @@ storeCall G S w = do
   parsed G S w  -- 9, 10
   accept counts (Storage G S w)
 
--- where `room` is the length of the work area and `long` that of the tree area, whose "earlier contents" parse "ignores"
+-- where `room` is the length of the work area and `long` that of the tree area, whose "earlier contents" parse
+-- "ignores"
 abbrev pub parseWith : (tables tokens : List ℕ) (room long : ℕ) → Grammar → Call (List ℕ)
 parseWith tables tokens room long G = do
   tablesOf G tables  -- 4

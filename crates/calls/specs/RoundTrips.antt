@@ -1,4 +1,5 @@
--- Across calls: what parse has stored, read back returns; after an edit it returns the old tokens with the run replaced.
+-- Across calls: what parse has stored, read back returns; after an edit it returns the old tokens with the run
+-- replaced.
 -- Demand 2: "that tree is stored; reading it back gives the same tokens and tags".
 use Prim.Native.Nat.{ℕ, _+_, _*_, _≤_}
 use mathlib.Core.Path.{_≡_, refl, sym, ap, _∙_}
@@ -28,22 +29,27 @@ use Rattle.calls.specs.Demand2.{parse-stores, stores-valid}
 use Rattle.calls.specs.Demand3.{Renewed, edit-renews}
 
 -- read back of an area gives one reply and output
-pub read-back-one : {image tree output : List ℕ} (r s : Reply) (v w : List ℕ) → Outcome (readBackCall image tree output) output r v → Outcome (readBackCall image tree output) output s w
+pub read-back-one : {image tree output : List ℕ} (r s : Reply) (v w : List ℕ)
+    → Outcome (readBackCall image tree output) output r v → Outcome (readBackCall image tree output) output s w
     → (r ≡ s) × (v ≡ w)
-read-back-one {image} {tree} {output} r s v w h k = one-outcome (readBackCall image tree output) (read-back-settled image tree output) output r s v w h k
+read-back-one {image} {tree} {output} r s v w h k =
+    one-outcome (readBackCall image tree output) (read-back-settled image tree output) output r s v w h k
 
 -- of a valid tree, and a long enough output: its tokens
-pub reads-tree : {image tree : List ℕ} {G : Grammar} {S : ℕ} → Fit image G → (v : Valid G S tree) (output : List ℕ) → needed (v .tree) ≤ length output
+pub reads-tree : {image tree : List ℕ} {G : Grammar} {S : ℕ} → Fit image G → (v : Valid G S tree) (output : List ℕ)
+    → needed (v .tree) ≤ length output
     → Outcome (readBackCall image tree output) output (Accepted (readCounts (size (v .tree)))) (tokenBytes (yield (v .tree)) ++ drop (needed (v .tree)) output)
 reads-tree {tree = tree} f v output l =
     given-passed (readBackWith tree output) f (passed (valid-sized v) (passed (valid-holds v) (passed l (accepting (record { counts = refl; bytes = refl })))))
 
 -- ---- parse, then read back
 
-module _ {image tables tokens : List ℕ} {room long : ℕ} {tree tree' : List ℕ} (c : Counts) (h : Outcome (parseCall image tables tokens room long) tree (Accepted c) tree')
+module _ {image tables tokens : List ℕ} {room long : ℕ} {tree tree' : List ℕ} (c : Counts)
+    (h : Outcome (parseCall image tables tokens room long) tree (Accepted c) tree')
     (output : List ℕ) (l : length tokens ≤ length output) where
   -- for every accepted parse, read back of the stored tree is accepted with that total and gives the same token bytes
-  pub parse-read-back : Outcome (readBackCall image tree' output) output (Accepted (readCounts (c .total))) (tokens ++ drop (length tokens) output)
+  pub parse-read-back : Outcome (readBackCall image tree' output) output (Accepted (readCounts (c .total)))
+      (tokens ++ drop (length tokens) output)
   parse-read-back =
       let x = parse-stores c tree' h in
       let f = x .storage .tree in
@@ -77,12 +83,14 @@ module _ (w : List Token) (k : ℕ) (l : k ≤ length w) where
   drop-bytes = rw parted (drop-at (tokenBytes (take k w)) (tokenBytes (drop k w)) (tokenSize * k) counted)
 
 -- they are the bytes of the new sentence
-replaced-bytes : (place removed : ℕ) (w ins : List Token) → place + removed ≤ length w → replaced (tokenBytes w) place removed (tokenBytes ins) ≡ tokenBytes (edited (editOf place removed ins) w)
+replaced-bytes : (place removed : ℕ) (w ins : List Token) → place + removed ≤ length w
+    → replaced (tokenBytes w) place removed (tokenBytes ins) ≡ tokenBytes (edited (editOf place removed ins) w)
 replaced-bytes place removed w ins l =
     rw (take-bytes w place (omega arith), drop-bytes w (place + removed) l, token-bytes-append (take place w) (ins ++ drop (place + removed) w), token-bytes-append ins (drop (place + removed) w))
 
 -- where read back gave the old tree's tokens, into an output of just their length
-module _ {image tables tokens : List ℕ} {place removed room : ℕ} {tree tree' : List ℕ} (c : Counts) (h : Outcome (editCall image tables tokens place removed room tree) tree (Accepted c) tree')
+module _ {image tables tokens : List ℕ} {place removed room : ℕ} {tree tree' : List ℕ} (c : Counts)
+    (h : Outcome (editCall image tables tokens place removed room tree) tree (Accepted c) tree')
     {before old : List ℕ} (r₀ : Reply) (back : Outcome (readBackCall image tree before) before r₀ old) (whole : length before ≡ tokenSize * get16 tree tokensPlace) (output : List ℕ)
     (l : length (replaced old place removed tokens) ≤ length output) where
   abbrev x : Renewed image tree place removed tokens c tree'
@@ -101,7 +109,8 @@ module _ {image tables tokens : List ℕ} {place removed room : ℕ} {tree tree'
       ∙ replaced-bytes place removed (yield (x .old .tree)) (x .inserted) (x .within) ∙ ap tokenBytes (sym (x .yields))
 
   -- read back of the new tree gives the same tokens with the run replaced
-  pub edit-read-back : Outcome (readBackCall image tree' output) output (Accepted (readCounts (c .total))) (replaced old place removed tokens ++ drop (length (replaced old place removed tokens)) output)
+  pub edit-read-back : Outcome (readBackCall image tree' output) output (Accepted (readCounts (c .total)))
+      (replaced old place removed tokens ++ drop (length (replaced old place removed tokens)) output)
   edit-read-back =
       let f : Forest = x .new .tree in
       let k : needed f ≡ length (replaced old place removed tokens) = sym (ap length new-bytes ∙ length-token-bytes (yield f)) in

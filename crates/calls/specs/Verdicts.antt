@@ -62,7 +62,8 @@ pub record Answered (G : Grammar) (S : ℕ) (w : List Token) (r : Reply) : Type 
 
 module _ {G : Grammar} {S : ℕ} {w : List Token} where
   -- the last checks of a call whose total is the number of nodes
-  pub parsed-answered : {B : Type 0} {P : Counts → B → Type 0} {before after : B} {r : Reply} → ((n : ℕ) (c : Counts) (v : B) → Parses G S w (accepted n) → P c v → c .total ≡ n)
+  pub parsed-answered : {B : Type 0} {P : Counts → B → Type 0} {before after : B} {r : Reply}
+      → ((n : ℕ) (c : Counts) (v : B) → Parses G S w (accepted n) → P c v → c .total ≡ n)
       → Tried (parsed G S w) (λ _. Accepting counts P) before r after → Answered G S w r
   parsed-answered t (refused (wrong-syntax {i = i} {e = e} p)) = record { verdict = syntax i e; parses = p; answers = Answers.nine }
   parsed-answered t (refused (no-room p)) = record { verdict = noRoom; parses = p; answers = Answers.ten }
@@ -82,9 +83,11 @@ module _ {G : Grammar} {S : ℕ} {w : List Token} where
     pub answered-alike : {r r' : Reply} → Answered G S w r → Answered G S w r' → Alike r r'
     answered-alike {r} {r'} a b = answers-alike (a .answers) (answered-exactly b (a .verdict) .0 (a .parses))
 
-    -- "With reply 9, its place equals the number of tokens in the longest beginning of the sentence that also begins some sentence of the language"
+    -- "With reply 9, its place equals the number of tokens in the longest beginning of the sentence that also begins
+    -- some sentence of the language"
     pub answered-place : {r : Reply} → Answered G S w r → (i e : ℕ) → r ≡ Refused (reasons.Syntax i e) → Longest G w i
-    answered-place {r} a i e q = let b : Answers (syntax i e) r = rw q Answers.nine in place-longest g i e (answered-exactly a (syntax i e) .1 b)
+    answered-place {r} a i e q =
+        let b : Answers (syntax i e) r = rw q Answers.nine in place-longest g i e (answered-exactly a (syntax i e) .1 b)
 
     module _ (l : 1 ≤ S) {r : Reply} (a : Answered G S w r) where
       -- accepted, with the total n, exactly where the sentence has a derivation tree of n nodes that fits
@@ -99,7 +102,8 @@ module _ {G : Grammar} {S : ℕ} {w : List Token} where
 
       -- in document 01's numbers
       pub answered-zero : (numberOf r ≡ 0) ↔ ((n : ℕ) × Fitting G S w n)
-      answered-zero = (λ e. go (a .verdict) (a .parses) (a .answers) e, λ x. ap numberOf (answered-fits (x .0) .1 (x .1) .1))
+      answered-zero =
+          (λ e. go (a .verdict) (a .parses) (a .answers) e, λ x. ap numberOf (answered-fits (x .0) .1 (x .1) .1))
         where
           go : {r : Reply} (u : Verdict) → Parses G S w u → Answers u r → numberOf r ≡ 0 → (n : ℕ) × Fitting G S w n
           go u p (Answers.yes {n = n} q) e = (n, accepted-exactly S w n l .0 p)

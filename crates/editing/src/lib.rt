@@ -43,7 +43,8 @@ pub enum OldTree {
 // Replies 5 and 6 of an area of that many slots.
 pub fn old_tree(tree: &[u8], slots: usize, rows: &[u8], head: Head, work: &mut [u8]) -> OldTree
     requires { ⌜ Sized slots (length (now tree)) × (head .start < symbolSpace) ⌝ }
-    ensures { λ r. ⌜ Finds (grammarIn (now (rows .entry)) head) slots (now (tree .entry)) (length (now (work .entry))) (now (work .exit)) r ⌝ }
+    ensures { λ r. ⌜ Finds (grammarIn (now (rows .entry)) head) slots (now (tree .entry)) (length (now (work .entry)))
+        (now (work .exit)) r ⌝ }
 {
     if work.len() < trees::WORK_AREAS * tree.len() {
         if is_tree(tree, slots, rows, head) {
@@ -94,8 +95,12 @@ pub fn renew(
     head: Head,
     work: &mut [u8],
 ) -> Reply
-    requires { ⌜ Prepared (grammarIn (now rows) head) × Tables (grammarIn (now rows) head) (now tables) × Treed (grammarIn (now rows) head) slots (now tree) (now work) o × Sentence (head .t) (now tokens) (tokensFrom (now tokens) m 0) × (place + removed ≤ get16 (now tree) tokensPlace) × (workAreas * length (now tree) ≤ length (now work)) ⌝ }
-    ensures { λ r. ⌜ Renews (grammarIn (now (rows .entry)) head) slots (editOf place removed (tokensFrom (now (tokens .entry)) m 0)) (now (tree .entry)) r (now (tree .exit)) ⌝ }
+    requires { ⌜ Prepared (grammarIn (now rows) head) × Tables (grammarIn (now rows) head) (now tables)
+        × Treed (grammarIn (now rows) head) slots (now tree) (now work) o
+        × Sentence (head .t) (now tokens) (tokensFrom (now tokens) m 0)
+        × (place + removed ≤ get16 (now tree) tokensPlace) × (workAreas * length (now tree) ≤ length (now work)) ⌝ }
+    ensures { λ r. ⌜ Renews (grammarIn (now (rows .entry)) head) slots
+        (editOf place removed (tokensFrom (now (tokens .entry)) m 0)) (now (tree .entry)) r (now (tree .exit)) ⌝ }
 {
     match altering::alter(
         rows,

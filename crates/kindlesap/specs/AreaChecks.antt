@@ -21,7 +21,8 @@ slotted-odd n l m = record { right = λ z. absurd (z refl); wrong = λ _ S z. m 
 pub slotted-long : (n S : ℕ) → headerSize + slotSize ≤ n → S ≡ (n - headerSize) / slotSize → maxSlots < S → Slotted n 0
 slotted-long n S l q m = record { right = λ z. absurd (z refl); wrong = λ _ T z. let e = z .long in let f = z .few in omega arith }
 
-pub slotted-right : (n S : ℕ) → headerSize + slotSize ≤ n → (n - headerSize) % slotSize ≡ 0 → S ≡ (n - headerSize) / slotSize → S ≤ maxSlots → Slotted n S
+pub slotted-right : (n S : ℕ) → headerSize + slotSize ≤ n → (n - headerSize) % slotSize ≡ 0
+    → S ≡ (n - headerSize) / slotSize → S ≤ maxSlots → Slotted n S
 slotted-right n S l z q m = record { right = λ _. record { some = omega arith; few = m; long = omega arith }; wrong = λ w. absurd (omega arith) }
 
 pub ruleset slotting = (slotted-short, slotted-odd, slotted-long, slotted-right)

@@ -1,4 +1,5 @@
--- The laws that the proof of parse cites: an accepted sentence's node list is its derivation tree in preorder, and is laid out so; what each check on the way says of the call.
+-- The laws that the proof of parse cites: an accepted sentence's node list is its derivation tree in preorder, and is
+-- laid out so; what each check on the way says of the call.
 use Prim.Native.Nat.{ℕ, zero, suc, _+_, _*_, _≤_, _<_}
 use mathlib.Core.Path.{_≡_, refl, sym, ap, _∙_}
 use mathlib.Core.List.{List, [], _∷_, List·Memᴰ, List·Memᴰ·head, List·Memᴰ·tail}
@@ -47,11 +48,13 @@ above-from s (suc n) x (List·Memᴰ·tail m) = omega (arith, above-from (s + 1)
 
 distinct-from : (s n : ℕ) → Distinct (upFrom s n)
 distinct-from s zero = Distinct.nil
-distinct-from s (suc n) = let f : List·Memᴰ s (upFrom (s + 1) n) → ⊥ = λ m. omega (arith, above-from (s + 1) n s m) in Distinct.cons f (distinct-from (s + 1) n)
+distinct-from s (suc n) =
+    let f : List·Memᴰ s (upFrom (s + 1) n) → ⊥ = λ m. omega (arith, above-from (s + 1) n s m) in Distinct.cons f (distinct-from (s + 1) n)
 
 within-from : (S s n : ℕ) → 1 ≤ s → s + n ≤ S + 1 → Each (λ x. (1 ≤ x) × (x ≤ S)) (upFrom s n)
 within-from S s zero l m = Each.nil
-within-from S s (suc n) l m = let w : (1 ≤ s) × (s ≤ S) = (l, omega arith) in Each.cons w (within-from S (s + 1) n (omega arith) (omega arith))
+within-from S s (suc n) l m =
+    let w : (1 ≤ s) × (s ≤ S) = (l, omega arith) in Each.cons w (within-from S (s + 1) n (omega arith) (omega arith))
 
 pub spread-from : (S : ℕ) (es : List Node) → Numbered 1 es → length es ≤ S → Spread S es
 spread-from S es h l =
@@ -60,7 +63,8 @@ spread-from S es h l =
 
 -- ---- an accepted sentence
 
-module _ (rows : List ℕ) (head : Head) (S : ℕ) (b : List ℕ) (m o : ℕ) (w : List ℕ) (l : 1 ≤ S) (d : Done (grammarIn rows head) S b m o w) where
+module _ (rows : List ℕ) (head : Head) (S : ℕ) (b : List ℕ) (m o : ℕ) (w : List ℕ) (l : 1 ≤ S)
+    (d : Done (grammarIn rows head) S b m o w) where
   abbrev G : Grammar
   G = grammarIn rows head
 
@@ -94,16 +98,21 @@ module _ (rows : List ℕ) (head : Head) (S : ℕ) (b : List ℕ) (m o : ℕ) (w
         derives = forest .1;
         yields = sym (leaves-yield formed) ∙ ap leavesOf (forest .2) ∙ d .leaves;
         fits = omega (arith, sized, fits-slots);
-        order = rw built at (slots-build (arityIn rows) es) ∙ numbered-slots (d .numbered) ∙ ap (upFrom 1) (length-nodes w o 0 ∙ sym sized);
+        order =
+            rw built at (slots-build (arityIn rows) es) ∙ numbered-slots (d .numbered) ∙ ap (upFrom 1) (length-nodes w o 0 ∙ sym sized);
       }
 
-  pub store-done : (tree tree' : List ℕ) → Area S (build (arityIn rows) es) tree' → Outcome (storeCall G S (tokensFrom b m 0)) tree (Accepted (parseCounts o)) tree'
-  store-done tree tree' a = passed (d .parses) (accepting (record { tree = forest .0; stored = done-stored; counts = ap parseCounts (sym sized); area = rw built at a }))
+  pub store-done : (tree tree' : List ℕ) → Area S (build (arityIn rows) es) tree'
+      → Outcome (storeCall G S (tokensFrom b m 0)) tree (Accepted (parseCounts o)) tree'
+  store-done tree tree' a =
+      passed (d .parses) (accepting (record { tree = forest .0; stored = done-stored; counts = ap parseCounts (sym sized); area = rw built at a }))
 
 -- ---- replies 9 and 10
 
-module _ {G : Grammar} {S : ℕ} {b : List ℕ} {m : ℕ} {work : List ℕ} {r : Parsed} (u : Ran G S b m work r) (tree : List ℕ) where
-  pub store-9 : (i e : ℕ) → r ≡ Parsed.Syntax i e → Outcome (storeCall G S (tokensFrom b m 0)) tree (Refused (reasons.Syntax i e)) tree
+module _ {G : Grammar} {S : ℕ} {b : List ℕ} {m : ℕ} {work : List ℕ} {r : Parsed} (u : Ran G S b m work r)
+    (tree : List ℕ) where
+  pub store-9 : (i e : ℕ) → r ≡ Parsed.Syntax i e
+      → Outcome (storeCall G S (tokensFrom b m 0)) tree (Refused (reasons.Syntax i e)) tree
   store-9 i e q = refused (wrong-syntax (is-wrong i e u q))
 
   pub store-10 : r ≡ Parsed.NoRoom → Outcome (storeCall G S (tokensFrom b m 0)) tree (Refused reasons.NoRoom) tree
@@ -116,34 +125,43 @@ room-for S long room z l = omega (arith, z .long, l)
 -- ---- for each check: the outcome of the call where it refuses, and the rest of the call where it passes
 
 -- replies 1 to 3
-pub parse-3 : (tables tokens : List ℕ) (room long : ℕ) (tree : List ℕ) {image rows s cells : List ℕ} {r : GrammarChecked} (p : Reason) → Checks image rows s cells r → r ≡ GrammarChecked.Unfit p
+pub parse-3 : (tables tokens : List ℕ) (room long : ℕ) (tree : List ℕ) {image rows s cells : List ℕ}
+    {r : GrammarChecked} (p : Reason) → Checks image rows s cells r → r ≡ GrammarChecked.Unfit p
     → Outcome (parseCall image tables tokens room long) tree (Refused p) tree
 parse-3 tables tokens room long tree p h e = checked-refused (parseWith tables tokens room long) tree p h e
 
 module _ {image : List ℕ} {G : Grammar} (f : Fit image G) (tables tokens : List ℕ) (room long : ℕ) (tree : List ℕ) where
-  by-3 : {r : Reply} {tree' : List ℕ} → Outcome (parseWith tables tokens room long G) tree r tree' → Outcome (parseCall image tables tokens room long) tree r tree'
+  by-3 : {r : Reply} {tree' : List ℕ} → Outcome (parseWith tables tokens room long G) tree r tree'
+      → Outcome (parseCall image tables tokens room long) tree r tree'
   by-3 o = given-passed (parseWith tables tokens room long) f o
 
-  pub parse-4 : (Tables G tables → ⊥) → Outcome (parseCall image tables tokens room long) tree (Refused reasons.WrongTables) tree
+  pub parse-4 : (Tables G tables → ⊥)
+      → Outcome (parseCall image tables tokens room long) tree (Refused reasons.WrongTables) tree
   parse-4 n = by-3 (refused (exactly n))
 
   module _ (t : Tables G tables) where
-    pub parse-5 : area long .Fail reasons.WrongTree → Outcome (parseCall image tables tokens room long) tree (Refused reasons.WrongTree) tree
+    pub parse-5 : area long .Fail reasons.WrongTree
+        → Outcome (parseCall image tables tokens room long) tree (Refused reasons.WrongTree) tree
     parse-5 n = by-3 (passed t (refused n))
 
     module _ (S : ℕ) (z : Sized S long) where
-      pub parse-6 : (need : ℕ) → need ≡ workAreas * long → room < need → Outcome (parseCall image tables tokens room long) tree (Refused (reasons.ShortWork need)) tree
+      pub parse-6 : (need : ℕ) → need ≡ workAreas * long → room < need
+          → Outcome (parseCall image tables tokens room long) tree (Refused (reasons.ShortWork need)) tree
       parse-6 need e l = rw e (by-3 (passed t (passed z (refused (exactly (λ m. omega (arith, e, l, m)))))))
 
       module _ (l : workAreas * long ≤ room) where
-        pub parse-7 : {r : Tokens} (k : ℕ) → Told (G .t) tokens r → r ≡ Tokens.Bad k → Outcome (parseCall image tables tokens room long) tree (Refused (reasons.BadToken k)) tree
+        pub parse-7 : {r : Tokens} (k : ℕ) → Told (G .t) tokens r → r ≡ Tokens.Bad k
+            → Outcome (parseCall image tables tokens room long) tree (Refused (reasons.BadToken k)) tree
         parse-7 k u e = by-3 (passed t (passed z (passed l (refused (at (is-bad k u e))))))
 
-        pub parse-rest : (m : ℕ) {r : Tokens} → Told (G .t) tokens r → r ≡ Tokens.Good m → (reply : Reply) (tree' : List ℕ) → Outcome (storeCall G S (tokensFrom tokens m 0)) tree reply tree'
+        pub parse-rest : (m : ℕ) {r : Tokens} → Told (G .t) tokens r → r ≡ Tokens.Good m
+            → (reply : Reply) (tree' : List ℕ) → Outcome (storeCall G S (tokensFrom tokens m 0)) tree reply tree'
             → Outcome (parseCall image tables tokens room long) tree reply tree'
         parse-rest m u e reply tree' o = by-3 (passed t (passed z (passed l (passed (is-good m u e .sentence) o))))
 
 -- what a parse is given, from the checks before it
-pub grounded : (rows : List ℕ) (head : Head) (tables b : List ℕ) (m : ℕ) {r : Tokens} → Prepared (grammarIn rows head) → Tables (grammarIn rows head) tables → Told (head .t) b r → r ≡ Tokens.Good m
+pub grounded : (rows : List ℕ) (head : Head) (tables b : List ℕ) (m : ℕ) {r : Tokens} → Prepared (grammarIn rows head)
+    → Tables (grammarIn rows head) tables → Told (head .t) b r → r ≡ Tokens.Good m
     → Ground rows head tables b m
-grounded rows head tables b m p h u e = let c = is-good m u e in record { prepared = p; tables = h; long = c .long; kinds = c .kinds }
+grounded rows head tables b m p h u e =
+    let c = is-good m u e in record { prepared = p; tables = h; long = c .long; kinds = c .kinds }

@@ -15,7 +15,8 @@ use Rattle.kindlesap.specs.declared.checks.GrammarChecked.{GrammarChecke
 use Rattle.kindlesap.specs.GrammarChecks.{Checks, checked-refused}
 
 -- replies 1 to 3
-pub prepare-3 : (size : ℕ) (tables : List ℕ) {image rows s cells : List ℕ} {r : GrammarChecked} (p : Reason) → Checks image rows s cells r → r ≡ GrammarChecked.Unfit p
+pub prepare-3 : (size : ℕ) (tables : List ℕ) {image rows s cells : List ℕ} {r : GrammarChecked} (p : Reason)
+    → Checks image rows s cells r → r ≡ GrammarChecked.Unfit p
     → Outcome (prepareCall image size) tables (Refused p) tables
 prepare-3 size tables p h e = checked-refused (prepareWith size) tables p h e
 
@@ -23,5 +24,6 @@ module _ {image : List ℕ} {G : Grammar} (f : Fit image G) (size : ℕ) (tables
   pub prepare-4 : (size ≡ tablesSize → ⊥) → Outcome (prepareCall image size) tables (Refused WrongTables) tables
   prepare-4 n = given-passed (prepareWith size) f (refused (exactly n))
 
-  pub prepare-done : (tables' : List ℕ) → size ≡ tablesSize → Tables G tables' → Outcome (prepareCall image size) tables (Accepted noCounts) tables'
+  pub prepare-done : (tables' : List ℕ) → size ≡ tablesSize → Tables G tables'
+      → Outcome (prepareCall image size) tables (Accepted noCounts) tables'
   prepare-done tables' e t = given-passed (prepareWith size) f (passed e (accepting (refl, t)))

@@ -18,7 +18,8 @@ pub fn edit_checked(
     tokens: &[u8],
     work: &mut [u8],
 ) -> Reply
-    ensures { λ r. ⌜ Outcome (editCall (now (image .entry)) (now (tables .entry)) (now (tokens .entry)) place removed (length (now (work .entry))) (now (tree .entry))) (now (tree .entry)) r (now (tree .exit)) ⌝ }
+    ensures { λ r. ⌜ Outcome (editCall (now (image .entry)) (now (tables .entry)) (now (tokens .entry)) place removed
+        (length (now (work .entry))) (now (tree .entry))) (now (tree .entry)) r (now (tree .exit)) ⌝ }
 {
     let mut rows = [0u8; grammar::ROWS_SIZE];
     let mut sets = [0u32; sets::SETS_SIZE];

@@ -27,8 +27,10 @@ fn parse_tokens(
     tree: &mut [u8],
     work: &mut [u8],
 ) -> Reply
-    requires { ⌜ Ground (now rows) head (now tables) (now tokens) m × Sized slots (length (now tree)) × (workAreas * length (now tree) ≤ length (now work)) ⌝ }
-    ensures { λ r. ⌜ Outcome (storeCall (grammarIn (now (rows .entry)) head) slots (tokensFrom (now (tokens .entry)) m 0)) (now (tree .entry)) r (now (tree .exit)) ⌝ }
+    requires { ⌜ Ground (now rows) head (now tables) (now tokens) m × Sized slots (length (now tree))
+        × (workAreas * length (now tree) ≤ length (now work)) ⌝ }
+    ensures { λ r. ⌜ Outcome (storeCall (grammarIn (now (rows .entry)) head) slots
+        (tokensFrom (now (tokens .entry)) m 0)) (now (tree .entry)) r (now (tree .exit)) ⌝ }
 {
     let o = match parsing::parse_lent(tokens, m, tables, rows, head, slots, work) {
         Parsed::Accepted(o) => o,
@@ -54,7 +56,8 @@ pub fn parse_checked(
     tree: &mut [u8],
     work: &mut [u8],
 ) -> Reply
-    ensures { λ r. ⌜ Outcome (parseCall (now (image .entry)) (now (tables .entry)) (now (tokens .entry)) (length (now (work .entry))) (length (now (tree .entry)))) (now (tree .entry)) r (now (tree .exit)) ⌝ }
+    ensures { λ r. ⌜ Outcome (parseCall (now (image .entry)) (now (tables .entry)) (now (tokens .entry))
+        (length (now (work .entry))) (length (now (tree .entry)))) (now (tree .entry)) r (now (tree .exit)) ⌝ }
 {
     let mut rows = [0u8; grammar::ROWS_SIZE];
     let mut sets = [0u32; sets::SETS_SIZE];

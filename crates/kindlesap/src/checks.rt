@@ -20,7 +20,8 @@ pub enum GrammarChecked {
 
 // Replies 2 and 3 of the grammar in the rows; its words and its predictions on the way. The cells are zero at first.
 fn judge(rows: &[u8], head: Head, sets: &mut [u32], cells: &mut [u8]) -> GrammarChecked
-    requires { ⌜ WellFormed (grammarIn (now rows) head) × (length (now sets) ≡ setsSize) × (now cells ≡ zeros predictionsSize) ⌝ }
+    requires { ⌜ WellFormed (grammarIn (now rows) head) × (length (now sets) ≡ setsSize)
+        × (now cells ≡ zeros predictionsSize) ⌝ }
     ensures { λ r. ⌜ Judges (now (rows .entry)) head (now (sets .exit)) (now (cells .exit)) r ⌝ }
 {
     sets::analyse(rows, head, sets);
@@ -43,7 +44,8 @@ pub fn check_grammar(
     cells: &mut [u8],
 ) -> GrammarChecked
     requires { ⌜ (length (now sets) ≡ setsSize) × (now cells ≡ zeros predictionsSize) ⌝ }
-    ensures { λ r. ⌜ Checks (now (image .entry)) (now (rows .exit)) (now (sets .exit)) (now (cells .exit)) r × (length (now (rows .exit)) ≡ rowsSize) ⌝ }
+    ensures { λ r. ⌜ Checks (now (image .entry)) (now (rows .exit)) (now (sets .exit)) (now (cells .exit)) r
+        × (length (now (rows .exit)) ≡ rowsSize) ⌝ }
 {
     match grammar::read_grammar(image, rows) {
         GrammarRead::Good(head) => judge(rows, head, sets, cells),

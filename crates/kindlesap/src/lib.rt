@@ -18,7 +18,8 @@ ghost use Rattle.calls.specs.ReadBack.{readBackCall};
 
 // Prepares the tables of a grammar image.
 pub fn prepare(image: &[u8], tables: &mut [u8]) -> Reply
-    ensures { λ r. ⌜ Outcome (prepareCall (now (image .entry)) (length (now (tables .entry)))) (now (tables .entry)) r (now (tables .exit)) ⌝ }
+    ensures { λ r. ⌜ Outcome (prepareCall (now (image .entry)) (length (now (tables .entry)))) (now (tables .entry)) r
+        (now (tables .exit)) ⌝ }
 {
     let mut rows = [0u8; grammar::ROWS_SIZE];
     let mut sets = [0u32; sets::SETS_SIZE];
@@ -43,7 +44,9 @@ pub fn prepare(image: &[u8], tables: &mut [u8]) -> Reply
 
 // Parses tokens into a tree.
 pub fn parse(image: &[u8], tables: &[u8], tokens: &[u8], tree: &mut [u8], work: &mut [u8]) -> Reply
-    ensures { λ r. ⌜ Ends (parseCall (now (image .entry)) (now (tables .entry)) (now (tokens .entry)) (length (now (work .entry))) (length (now (tree .entry)))) (now (tree .entry)) (now (work .entry)) r (now (tree .exit)) (now (work .exit)) ⌝ }
+    ensures { λ r. ⌜ Ends (parseCall (now (image .entry)) (now (tables .entry)) (now (tokens .entry))
+        (length (now (work .entry))) (length (now (tree .entry)))) (now (tree .entry)) (now (work .entry)) r
+        (now (tree .exit)) (now (work .exit)) ⌝ }
 {
     let r = call_parse::parse_checked(image, tables, tokens, tree, work);
     base::zero(work);
@@ -60,7 +63,9 @@ pub fn edit(
     tokens: &[u8],
     work: &mut [u8],
 ) -> Reply
-    ensures { λ r. ⌜ Ends (editCall (now (image .entry)) (now (tables .entry)) (now (tokens .entry)) place removed (length (now (work .entry))) (now (tree .entry))) (now (tree .entry)) (now (work .entry)) r (now (tree .exit)) (now (work .exit)) ⌝ }
+    ensures { λ r. ⌜ Ends (editCall (now (image .entry)) (now (tables .entry)) (now (tokens .entry)) place removed
+        (length (now (work .entry))) (now (tree .entry))) (now (tree .entry)) (now (work .entry)) r (now (tree .exit))
+        (now (work .exit)) ⌝ }
 {
     let r = call_edit::edit_checked(image, tables, tree, place, removed, tokens, work);
     base::zero(work);
@@ -69,7 +74,8 @@ pub fn edit(
 
 // Reads a tree's tokens back. They are put together in a local, after the room for the tree's nodes.
 pub fn read_back(image: &[u8], tree: &[u8], output: &mut [u8]) -> Reply
-    ensures { λ r. ⌜ Outcome (readBackCall (now (image .entry)) (now (tree .entry)) (now (output .entry))) (now (output .entry)) r (now (output .exit)) ⌝ }
+    ensures { λ r. ⌜ Outcome (readBackCall (now (image .entry)) (now (tree .entry)) (now (output .entry)))
+        (now (output .entry)) r (now (output .exit)) ⌝ }
 {
     let mut rows = [0u8; grammar::ROWS_SIZE];
     let mut sets = [0u32; sets::SETS_SIZE];
@@ -106,7 +112,8 @@ pub fn read_back(image: &[u8], tree: &[u8], output: &mut [u8]) -> Reply
 
 #[no_mangle]
 pub extern "C" fn kindlesap_prepare(grammar: &[u8], tables: &mut [u8], reply: &mut [u8])
-    ensures { λ _. ⌜ Called (prepareCall (now (grammar .entry)) (length (now (tables .entry)))) (now (tables .entry)) [] (now (reply .entry)) (now (tables .exit)) [] (now (reply .exit)) ⌝ }
+    ensures { λ _. ⌜ Called (prepareCall (now (grammar .entry)) (length (now (tables .entry)))) (now (tables .entry))
+        [] (now (reply .entry)) (now (tables .exit)) [] (now (reply .exit)) ⌝ }
 {
     let r = prepare(grammar, tables);
     replies::write_reply(r, reply);
@@ -121,7 +128,9 @@ pub extern "C" fn kindlesap_parse(
     work: &mut [u8],
     reply: &mut [u8],
 )
-    ensures { λ _. ⌜ Called (parseCall (now (grammar .entry)) (now (tables .entry)) (now (tokens .entry)) (length (now (work .entry))) (length (now (tree .entry)))) (now (tree .entry)) (now (work .entry)) (now (reply .entry)) (now (tree .exit)) (now (work .exit)) (now (reply .exit)) ⌝ }
+    ensures { λ _. ⌜ Called (parseCall (now (grammar .entry)) (now (tables .entry)) (now (tokens .entry))
+        (length (now (work .entry))) (length (now (tree .entry)))) (now (tree .entry)) (now (work .entry))
+        (now (reply .entry)) (now (tree .exit)) (now (work .exit)) (now (reply .exit)) ⌝ }
 {
     let r = parse(grammar, tables, tokens, tree, work);
     replies::write_reply(r, reply);
@@ -138,7 +147,9 @@ pub extern "C" fn kindlesap_edit(
     work: &mut [u8],
     reply: &mut [u8],
 )
-    ensures { λ _. ⌜ Called (editCall (now (grammar .entry)) (now (tables .entry)) (now (tokens .entry)) place removed (length (now (work .entry))) (now (tree .entry))) (now (tree .entry)) (now (work .entry)) (now (reply .entry)) (now (tree .exit)) (now (work .exit)) (now (reply .exit)) ⌝ }
+    ensures { λ _. ⌜ Called (editCall (now (grammar .entry)) (now (tables .entry)) (now (tokens .entry)) place removed
+        (length (now (work .entry))) (now (tree .entry))) (now (tree .entry)) (now (work .entry)) (now (reply .entry))
+        (now (tree .exit)) (now (work .exit)) (now (reply .exit)) ⌝ }
 {
     let r = edit(grammar, tables, tree, place, removed, tokens, work);
     replies::write_reply(r, reply);
@@ -151,7 +162,8 @@ pub extern "C" fn kindlesap_read_back(
     output: &mut [u8],
     reply: &mut [u8],
 )
-    ensures { λ _. ⌜ Called (readBackCall (now (grammar .entry)) (now (tree .entry)) (now (output .entry))) (now (output .entry)) [] (now (reply .entry)) (now (output .exit)) [] (now (reply .exit)) ⌝ }
+    ensures { λ _. ⌜ Called (readBackCall (now (grammar .entry)) (now (tree .entry)) (now (output .entry)))
+        (now (output .entry)) [] (now (reply .entry)) (now (output .exit)) [] (now (reply .exit)) ⌝ }
 {
     let r = read_back(grammar, tree, output);
     replies::write_reply(r, reply);

@@ -41,7 +41,8 @@ take-copied k b s l m =
     take-append-le k (take n s) (drop (0 + n) b) (omega (arith, e)) ∙ take-take k n s (omega arith)
 
 -- the number's bytes come first
-number-first : (r : Reply) → (wordSize ≤ length (replyBytes r)) × (take wordSize (replyBytes r) ≡ leBytes wordSize (numberOf r))
+number-first : (r : Reply)
+    → (wordSize ≤ length (replyBytes r)) × (take wordSize (replyBytes r) ≡ leBytes wordSize (numberOf r))
 unfolding replyBytes leBytes
 number-first r = (omega arith, refl)
 
@@ -50,7 +51,8 @@ unfolding leBytes
 same-number m n l k e = let q : m % 256 ≡ n % 256 = cc in omega arith
 
 -- so a slice that holds them tells it
-pub number-told : (b b' : List ℕ) (r : Reply) → wordSize ≤ length b → b' ≡ copied b 0 (replyBytes r) → (n : ℕ) → n < 256 → (take wordSize b' ≡ leBytes wordSize n) ↔ (numberOf r ≡ n)
+pub number-told : (b b' : List ℕ) (r : Reply) → wordSize ≤ length b → b' ≡ copied b 0 (replyBytes r) → (n : ℕ)
+    → n < 256 → (take wordSize b' ≡ leBytes wordSize n) ↔ (numberOf r ≡ n)
 number-told b b' r l e n k =
     let f = number-first r in
     let q : take wordSize b' ≡ leBytes wordSize (numberOf r) = ap (take wordSize) e ∙ take-copied wordSize b (replyBytes r) l (f .0) ∙ f .1 in
