@@ -8,14 +8,22 @@ use Rattle.editing.specs.Editing.{renews-syntax, renews-no-room, renews-
 abbrev to-pre : tie.After-alter → tie.Start
 to-pre c = c .before .before .before .before .before .before .before .before
 
+abbrev to-alter : tie.After-accepted → tie.After-alter
+to-alter c = c .before .before .before .before .before .before .before .before
+
 alter-requires : tie.Need-alter-requires
-alter-requires c κs = c .before .before .before .before .before .before .before .pre
+alter-requires c κs =
+    let s = c .before .before .before .before .before .before .before in
+    s .pre
 
 enum-known-total : tie.Need-enum-known-total
 enum-known-total c = search needs
 
 accepted-requires : tie.Need-accepted-requires
-accepted-requires c κs = few-fit _ _ (c .before .before .before .before .before .before .before .alter .ensures .1) (treed-few _ _ _ _ _ _ (to-pre (c .before .before .before .before .before .before .before) .pre .2)) (search needs)
+accepted-requires c κs =
+    let a = c .before .before .before .before .before .before .before in
+    let s = to-pre a in
+    few-fit _ _ (a .alter .ensures .1) (treed-few _ _ _ _ _ _ (s .pre .2)) (search needs)
 
 enum-known-token : tie.Need-enum-known-token
 enum-known-token c = search needs
@@ -30,7 +38,10 @@ same-length-2 : tie.Need-same-length-2
 same-length-2 c = search needs
 
 returns : tie.Need-returns
-returns c = renews-altered (c .before .before .before .before .before .before .before .before .alter .ensures .0) _ _ _ _ _ (to-pre (c .before .before .before .before .before .before .before .before) .pre .2) (search needs) (c .accepted .ensures)
+returns c =
+    let a = to-alter c in
+    let s = to-pre a in
+    renews-altered (a .alter .ensures .0) _ _ _ _ _ (s .pre .2) (search needs) (c .accepted .ensures)
 
 same-length-3 : tie.Need-same-length-3
 same-length-3 c = search needs
@@ -39,7 +50,9 @@ same-length-4 : tie.Need-same-length-4
 same-length-4 c = search needs
 
 returns-2 : tie.Need-returns-2
-returns-2 c = renews-syntax (c .before .before .before .before .before .before .before .alter .ensures .0) _ _ (search needs)
+returns-2 c =
+    let a = c .before .before .before .before .before .before .before in
+    renews-syntax (a .alter .ensures .0) _ _ (search needs)
 
 same-length-5 : tie.Need-same-length-5
 same-length-5 c = search needs
@@ -48,7 +61,9 @@ same-length-6 : tie.Need-same-length-6
 same-length-6 c = search needs
 
 returns-3 : tie.Need-returns-3
-returns-3 c = renews-no-room (c .before .before .before .before .before .before .alter .ensures .0) (search needs)
+returns-3 c =
+    let a = c .before .before .before .before .before .before in
+    renews-no-room (a .alter .ensures .0) (search needs)
 
 pub renew-spec : {M : Type 1} → statement M
 renew-spec =
