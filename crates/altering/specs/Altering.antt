@@ -6,7 +6,6 @@ use lib.ListN.{length, take, drop}
 use native.Mathlib.Omega.{arith}
 use Rattle.base.specs.Blocks.{part-tail}
 use Rattle.grammar.specs.declared.Head.{Head}
-use Rattle.grammar.specs.Grammar.{Grammar}
 use Rattle.grammar.specs.Rows.{grammarIn}
 use Rattle.trees.specs.Area.{maxSlots, areaSize, Area}
 use Rattle.trees.specs.Nodes.{trees, build, Fed}
@@ -27,20 +26,21 @@ use Rattle.altering.specs.Settling.{Both, both-old, both-new, both-one, 
 use Rattle.altering.specs.Parts.{nodes-drop}
 use Rattle.notes.specs.Views.{nodesIn, nodes-in}
 
--- both trees stand in the buffers, for an edit of these numbers
-pub record Doubled (G : Grammar) (S place removed inserted : ℕ) (tree w : List ℕ) (o k : ℕ) : Type 0 where
+-- both trees stand in the buffers, for a grammar in the rows and an edit of these numbers
+pub record Doubled (rows : List ℕ) (S place removed inserted : ℕ) (tree w : List ℕ) (o k : ℕ) : Type 0 where
+  pub head : Head
   pub edit : Edit
   pub numbers : Numbers edit place removed inserted
-  pub both : Both G S edit tree w o k
+  pub both : Both (grammarIn rows head) S edit tree w o k
 
--- the new tree is laid out, whichever such edit it was
-pub record SettledAll (G : Grammar) (S place removed inserted : ℕ) (tree w : List ℕ) (o k r : ℕ) (tree' : List ℕ) : Type 0 where
-  pub all : (e : Edit) → Numbers e place removed inserted → Both G S e tree w o k → AltersTree G S e tree (Alteration.Altered k r) tree'
+-- the new tree is laid out, whichever such grammar and edit it was
+pub record SettledAll (rows : List ℕ) (S place removed inserted : ℕ) (tree w : List ℕ) (o k r : ℕ) (tree' : List ℕ)
+    : Type 0 where
+  pub all : (head : Head) (e : Edit) → Numbers e place removed inserted → Both (grammarIn rows head) S e tree w o k
+      → AltersTree (grammarIn rows head) S e tree (Alteration.Altered k r) tree'
 
-module _ (rows : List ℕ) (head : Head) {S place removed inserted : ℕ} {tree w : List ℕ} {o k : ℕ} (h : Doubled (grammarIn rows head) S place removed inserted tree w o k) where
-  abbrev G : Grammar
-  G = grammarIn rows head
-
+module _ {rows : List ℕ} {S place removed inserted : ℕ} {tree w : List ℕ} {o k : ℕ}
+    (h : Doubled rows S place removed inserted tree w o k) where
   -- the numbers are small
   pub record Small : Type 0 where
     pub few : S ≤ maxSlots
@@ -54,12 +54,12 @@ module _ (rows : List ℕ) (head : Head) {S place removed inserted : ℕ} {tree 
 
   pub small : Small
   small =
-      let y = both-numbers rows head (h .both) in
+      let y = both-numbers rows (h .head) (h .both) in
       record {
         few = h .both .old .valid .few;
         long = h .both .old .valid .area .long;
-        old = treed-fits rows head S tree w o (h .both .old);
-        old-some = both-some rows head (h .both);
+        old = treed-fits rows (h .head) S tree w o (h .both .old);
+        old-some = both-some rows (h .head) (h .both);
         new = h .both .fits;
         place-few = omega (arith, y .0, h .numbers .place-is);
         removed-few = omega (arith, y .1, h .numbers .removed-is);
@@ -67,23 +67,23 @@ module _ (rows : List ℕ) (head : Head) {S place removed inserted : ℕ} {tree 
       }
 
   pub lists-old : Built rows w o 0
-  lists-old = both-old rows head (h .both)
+  lists-old = both-old rows (h .head) (h .both)
 
   pub lists-new : Built rows w k S
-  lists-new = both-new rows head (h .both)
+  lists-new = both-new rows (h .head) (h .both)
 
   pub one-root : trees (treeIn rows w k S) ≡ 1
-  one-root = both-one rows head (h .both)
+  one-root = both-one rows (h .head) (h .both)
 
   module _ {ms : List ℕ} (m : Matching rows w o S k place removed inserted ms) (few : Few o ms) where
     pub slots-fit : Fit S w ms k
-    slots-fit = both-fit rows head (h .both) (h .numbers) m few
+    slots-fit = both-fit rows (h .head) (h .both) (h .numbers) m few
 
     pub slots-old : Old S k ms
-    slots-old = both-old-nodes rows head (h .both) (h .numbers) m few
+    slots-old = both-old-nodes rows (h .head) (h .both) (h .numbers) m few
 
     pub settled-few : (r : ℕ) → Counts w ms k r → r ≤ o
-    settled-few r c = both-few rows head (h .both) (h .numbers) m few r c
+    settled-few r c = both-few rows (h .head) (h .both) (h .numbers) m few r c
 
     -- of a list that is the same
     module _ {u : List ℕ} (q : u ≡ w) where
@@ -104,12 +104,12 @@ module _ (rows : List ℕ) (head : Head) {S place removed inserted : ℕ} {tree 
           rw (p, part-tail v (nodeSize * S)) (nodes-drop v S k 0 ∙ ap (nodesFrom v k) z ∙ sym (nodes-in v S k S (omega (arith, small .new))))
 
       pub laid-spread : Spread S (nodesFrom part k 0)
-      laid-spread = rw part-is (both-spread rows head (h .both) (h .numbers) m few g)
+      laid-spread = rw part-is (both-spread rows (h .head) (h .both) (h .numbers) m few g)
 
       pub laid-fed : Fed (arityIn rows) (nodesFrom part k 0)
-      laid-fed = rw part-is (both-fed rows head (h .both) (h .numbers) m few g)
+      laid-fed = rw part-is (both-fed rows (h .head) (h .both) (h .numbers) m few g)
 
-      pub settled-all : {tree' : List ℕ} (r : ℕ) → Counts w ms k r → Area S (build (arityIn rows) (nodesFrom part k 0)) tree' → SettledAll G S place removed inserted tree w o k r tree'
+      pub settled-all : {tree' : List ℕ} (r : ℕ) → Counts w ms k r → Area S (build (arityIn rows) (nodesFrom part k 0)) tree' → SettledAll rows S place removed inserted tree w o k r tree'
       settled-all {tree'} r c a =
           let b : Area S (build (arityIn rows) (nodesFrom (nodesIn S v) k S)) tree' = rw part-is at a in
-          record { all = λ e s d. both-alters rows head d s m few g r c b }
+          record { all = λ head e s d. both-alters rows head d s m few g r c b }

@@ -134,11 +134,11 @@ module _ (rows : List ℕ) (head : Head) {S : ℕ} {tree w : List ℕ} {o : ℕ}
           numbers : Numbers e place removed m
           numbers = record { place-is = refl; removed-is = refl; inserted-is = length-tokens lent m 0 }
 
-          pub course-doubled : Doubled G S place removed m tree (nodesIn S w₂) o k
-          course-doubled = record { edit = e; numbers = numbers; both = both }
+          pub course-doubled : Doubled rows S place removed m tree (nodesIn S w₂) o k
+          course-doubled = record { head = head; edit = e; numbers = numbers; both = both }
 
-          pub course-settled : {kept : ℕ} {tree' : List ℕ} → SettledAll G S place removed m tree (nodesIn S w₂) o k kept tree' → AltersTree G S e tree (Alteration.Altered k kept) tree'
-          course-settled x = x .all e numbers both
+          pub course-settled : {kept : ℕ} {tree' : List ℕ} → SettledAll rows S place removed m tree (nodesIn S w₂) o k kept tree' → AltersTree G S e tree (Alteration.Altered k kept) tree'
+          course-settled x = x .all head e numbers both
 
 pub few-altered : {o k r S : ℕ} → r ≤ k → r ≤ o → k ≤ S → S ≤ maxSlots → Few o (Alteration.Altered k r)
 few-altered a b c d = Few.altered a b (omega arith)

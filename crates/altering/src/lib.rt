@@ -26,7 +26,6 @@ pub enum Alteration {
 // what is noted of both stands behind them.
 fn settle(
     rows: &[u8],
-    head: Head,
     slots: usize,
     o: usize,
     k: usize,
@@ -36,8 +35,10 @@ fn settle(
     work: &mut [u8],
     tree: &mut [u8],
 ) -> usize
-    requires { ⌜ Doubled (grammarIn (now rows) head) slots place removed inserted (now tree) (nodesIn slots (now work)) o k × (notesSize slots ≤ length (now work)) ⌝ }
-    ensures { λ r. ⌜ SettledAll (grammarIn (now (rows .entry)) head) slots place removed inserted (now (tree .entry)) (nodesIn slots (now (work .entry))) o k r (now (tree .exit)) × (r ≤ k) × (r ≤ o) ⌝ }
+    requires { ⌜ Doubled (now rows) slots place removed inserted (now tree) (nodesIn slots (now work)) o k
+        × (notesSize slots ≤ length (now work)) ⌝ }
+    ensures { λ r. ⌜ SettledAll (now (rows .entry)) slots place removed inserted (now (tree .entry))
+        (nodesIn slots (now (work .entry))) o k r (now (tree .exit)) × (r ≤ k) × (r ≤ o) ⌝ }
 {
     matching::match_nodes(work, slots, o, k, rows, place, removed, inserted);
     let kept = keeping::give_slots(work, slots, k);
@@ -75,7 +76,7 @@ pub fn alter(
     ) {
         Parsed::Accepted(k) => Alteration::Altered(
             k,
-            settle(rows, head, slots, o, k, place, removed, m, work, tree),
+            settle(rows, slots, o, k, place, removed, m, work, tree),
         ),
         Parsed::Syntax(token, expected) => Alteration::Syntax(token, expected),
         Parsed::NoRoom => Alteration::NoRoom,

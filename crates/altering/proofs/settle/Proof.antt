@@ -10,10 +10,10 @@ abbrev entry : tie.After-match-nodes → tie.Start
 entry c = c .before .before .before .before .before
 
 match-nodes-requires : tie.Need-match-nodes-requires
-match-nodes-requires c κs = let d = c .before .before .before .before .pre .0 in let x = small _ _ d in (lists-old _ _ d, lists-new _ _ d, one-root _ _ d, search needs, search needs, search needs, search needs, search needs, search needs, search needs, search needs)
+match-nodes-requires c κs = let d = c .before .before .before .before .pre .0 in let x = small d in (lists-old d, lists-new d, one-root d, search needs, search needs, search needs, search needs, search needs, search needs, search needs, search needs)
 
 give-slots-requires : tie.Need-give-slots-requires
-give-slots-requires c κs = let m = c .before .before .before in let d = entry m .pre .0 in let e = m .match-nodes .ensures in let x = small _ _ d in (search needs, search needs, search needs, slots-old _ _ d (e .0) (e .1), fit-then _ _ d (e .0) (e .1) (e .2))
+give-slots-requires c κs = let m = c .before .before .before in let d = entry m .pre .0 in let e = m .match-nodes .ensures in let x = small d in (search needs, search needs, search needs, slots-old d (e .0) (e .1), fit-then d (e .0) (e .1) (e .2))
 
 mul-lay-out : tie.Need-mul-lay-out
 mul-lay-out c = search needs
@@ -28,7 +28,7 @@ part-lay-out-end : tie.Need-part-lay-out-end
 part-lay-out-end c = search needs
 
 lay-out-requires : tie.Need-lay-out-requires
-lay-out-requires c κs = let m = c .before .before .before .before .before .before .before .before .before in let d = entry m .pre .0 in let e = m .match-nodes .ensures in let x = small _ _ d in let g = gives-then _ _ d (e .0) (e .1) (e .2) (c .before .before .before .before .before .give-slots .ensures .0) in (search needs, search needs, search needs, search needs, laid-spread _ _ d (e .0) (e .1) _ g refl, laid-fed _ _ d (e .0) (e .1) _ g refl)
+lay-out-requires c κs = let m = c .before .before .before .before .before .before .before .before .before in let d = entry m .pre .0 in let e = m .match-nodes .ensures in let x = small d in let g = gives-then d (e .0) (e .1) (e .2) (c .before .before .before .before .before .give-slots .ensures .0) in (search needs, search needs, search needs, search needs, laid-spread d (e .0) (e .1) _ g refl, laid-fed d (e .0) (e .1) _ g refl)
 
 same-length : tie.Need-same-length
 same-length c = search needs
@@ -37,7 +37,7 @@ same-length-2 : tie.Need-same-length-2
 same-length-2 c = search needs
 
 returns : tie.Need-returns
-returns c = let m = c .before .before .before .before .before .before .before .before .before .before .before .before in let d = entry m .pre .0 in let e = m .match-nodes .ensures in let s = c .before .before .before .before .before .before .before .before .give-slots .ensures in let g = gives-then _ _ d (e .0) (e .1) (e .2) (s .0) in let n = counts-then _ _ d (e .0) (e .1) (e .2) (s .1) in (settled-all _ _ d (e .0) (e .1) _ g refl _ n (c .before .before .lay-out .ensures), keeps-few n, settled-few _ _ d (e .0) (e .1) _ n)
+returns c = let m = c .before .before .before .before .before .before .before .before .before .before .before .before in let d = entry m .pre .0 in let e = m .match-nodes .ensures in let s = c .before .before .before .before .before .before .before .before .give-slots .ensures in let g = gives-then d (e .0) (e .1) (e .2) (s .0) in let n = counts-then d (e .0) (e .1) (e .2) (s .1) in (settled-all d (e .0) (e .1) _ g refl _ n (c .before .before .lay-out .ensures), keeps-few n, settled-few d (e .0) (e .1) _ n)
 
 pub settle-spec : {M : Type 1} → statement M
 settle-spec =
