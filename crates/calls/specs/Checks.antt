@@ -22,14 +22,21 @@ use Rattle.calls.specs.Order.{Check, Call, _>>=_, _>>_, WithPlace, requi
 abbrev pub readable : List ℕ → Check Grammar
 readable image = record { Pass = Image image; Fail = WithPlace (Bad image) reasons.BadGrammar }
 
+-- 2: "a nonterminal derives no terminal string (the empty one counts), or no string derived from the start holds it";
+-- "lowest such symbol"
+abbrev pub useful : Grammar → Check Unit
+useful G = none (Useless G) reasons.UselessSymbol
+
+-- 3: "not LL(1)"; "lowest nonterminal in conflict"
+abbrev pub ll1 : Grammar → Check Unit
+ll1 G = none (Conflict G) reasons.NotLl1
+
 -- every call begins with these
 abbrev pub given : {B : Type 0} → List ℕ → (Grammar → Call B) → Call B
 given image next = do
   G ← readable image  -- 1
-  -- 2: "a nonterminal derives no terminal string (the empty one counts), or no string derived from the start holds it";
-  -- "lowest such symbol"
-  none (Useless G) reasons.UselessSymbol
-  none (Conflict G) reasons.NotLl1  -- 3: "not LL(1)"; "lowest nonterminal in conflict"
+  useful G  -- 2
+  ll1 G  -- 3
   next G
 
 -- ---- reply 4: the tables, of `long` bytes
@@ -83,6 +90,7 @@ range old place removed = require (place + removed ≤ length (yield old)) (reas
 
 -- ---- replies 9 and 10: the plain parse
 
+-- the reason that a verdict gives
 pub data Rejected (G : Grammar) (S : ℕ) (w : List Token) : Reason → Type 0 where
   wrong-syntax : {i e : ℕ} → Parses G S w (syntax i e) → Rejected G S w (reasons.Syntax i e)
   no-room : Parses G S w noRoom → Rejected G S w reasons.NoRoom

@@ -36,5 +36,5 @@ editWith tables tokens place removed room tree G = do
   renewCall G S (editOf place removed w) old  -- 9, 10
 
 abbrev pub editCall : (image tables tokens : List ℕ) (place removed room : ℕ) (tree : List ℕ) → Call (List ℕ)
--- 1, 2, 3
-editCall image tables tokens place removed room tree = given image (editWith tables tokens place removed room tree)
+editCall image tables tokens place removed room tree =
+    given image (editWith tables tokens place removed room tree)  -- 1, 2, 3
