@@ -1,4 +1,6 @@
 // An edit of a valid tree by good tokens: the new sentence is formed and parsed, its nodes get their slots, and the area is laid out.
+#![tactic(auto)]
+
 ghost use Rattle.std.specs.Prelude.{◌+◌, ◌*◌, ◌≤◌, length};
 ghost use Rattle.grammar.specs.Rows.{grammar_in};
 ghost use Rattle.trees.specs.Area.{tokens_place, work_areas};

@@ -1,4 +1,6 @@
 // Bytes and runs of bytes. A read beyond the end gives 0, and a write there changes nothing, but for `two`, `four`, `eight`, `put_two` and `put_eight`, which ask to stay inside.
+#![tactic(auto)]
+
 ghost use Rattle.std.specs.Prelude.{◌≡◌, ◌+◌, ◌*◌, ◌^◌, ◌<◌, ◌≤◌, min, length, set};
 ghost use Rattle.base.specs.Bytes.{byte_at, get16 as get16m, get32 as get32m, put16 as put16m};
 ghost use Rattle.base.specs.Bits.{Dark, Level};

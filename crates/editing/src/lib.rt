@@ -1,4 +1,6 @@
 // An edit's old tree (replies 5 and 6), its range (8), and the rest of the call (9, 10).
+#![tactic(auto)]
+
 ghost use Rattle.std.specs.Prelude.{◌≡◌, ◌+◌, ◌-◌, ◌*◌, ◌≤◌, ◌<◌, length};
 ghost use Rattle.base.specs.Bytes.{get16};
 ghost use Rattle.base.specs.Tells.{Tells};

@@ -106,13 +106,17 @@ module _ {G : Grammar} where
         regroup M p _ q.front _ s.front s.back q.is s.is,
       )
 
-  pub forest_of : {xs : List ℕ} (w : List Token) → Each (Terminal G) (kinds w) → Steps G xs (kinds w)
+  forest_from : {xs ys : List ℕ} (w : List Token) → Each (Terminal G) (kinds w) → Steps G xs ys → ys ≡ kinds w
       → (f : Forest) × Derives G xs f × (yield f ≡ w)
-  forest_of w t stop = leaves w t
-  forest_of w t (then a s) =
-      let q = forest_of w t s in
+  forest_from w t stop e = rw e (leaves w t)
+  forest_from w t (then a s) e =
+      let q = forest_from w t s e in
       let g = step_back a q.1 in
       (g.0, g.1, g.2 ∙ q.2)
+
+  pub forest_of : {xs : List ℕ} (w : List Token) → Each (Terminal G) (kinds w) → Steps G xs (kinds w)
+      → (f : Forest) × Derives G xs f × (yield f ≡ w)
+  forest_of w t s = forest_from w t s refl
 
   -- ---- both
 

@@ -1,4 +1,6 @@
 // The reader of grammar images, the rows that it leaves, and the reference grammar.
+#![tactic(auto)]
+
 ghost use Rattle.std.specs.Prelude.{◌≡◌, ◌+◌, ◌<◌, ◌≤◌, length};
 ghost use Rattle.base.specs.Tells.{Tells};
 ghost use Rattle.base.specs.Blocks.{zeros};

@@ -1,5 +1,7 @@
 // The slots of the new tree's nodes: matched nodes keep those of their old nodes, the others get the lowest free ones.
 // Both trees' nodes, the matches and the marks stand in the one work area (`notes`).
+#![tactic(auto)]
+
 ghost use Rattle.std.specs.Prelude.{◌≡◌, [], ◌∷◌, ◌+◌, ◌<◌, ◌≤◌, max, length, get_or};
 ghost use Rattle.trees.specs.Area.{max_slots};
 ghost use Rattle.edits.specs.Keeping.{kept_of};

@@ -1,4 +1,6 @@
 // The public calls and their exports for C.
+#![tactic(auto)]
+
 mod call_edit;
 mod call_parse;
 mod checks;

@@ -1,4 +1,6 @@
 // Reads token bytes from standard input, parses them with the built-in grammar and 1,000 slots, and prints the tree in preorder, or why there is none.
+#![tactic(auto)]
+
 ghost use Rattle.std.specs.Prelude.{◌+◌, ◌*◌, ◌≤◌, length, take};
 ghost use Rattle.io.specs.Counts.{IsPrefixLen};
 ghost use Rattle.trees.specs.Area.{max_slots};

@@ -3,6 +3,8 @@
 // gone through in preorder: one with tokens looks for the old node that starts with the same token (before the place it is the one of the same number),
 // and hands on to its children without tokens.
 // A kept node that the edit doesn't touch has the old node's very subtree: all of it is kept node by node, and need not be gone through.
+#![tactic(auto)]
+
 ghost use Rattle.std.specs.Prelude.{◌≡◌, ◌+◌, ◌-◌, ◌<◌, ◌≤◌, length, get_or};
 ghost use Rattle.base.specs.Tells.{Tells};
 ghost use Rattle.trees.specs.Nodes.{trees};

@@ -1,6 +1,8 @@
 // What an edit notes in the lent work area, behind both trees' nodes: of each node the index behind its subtree (`end`) and the number of its tokens (`width`), of each old
 // token where its nodes begin (`start`), of each new node the old one whose slot it keeps (`match`), and a mark for each slot. One buffer holds them all and is read and
 // written through these functions only; what they say is about lists, and each says which lists stay as they were.
+#![tactic(auto)]
+
 ghost use Rattle.std.specs.Prelude.{◌≡◌, ◌+◌, ◌<◌, ◌≤◌, length, get_or, set};
 ghost use Rattle.base.specs.Blocks.{zeros};
 ghost use Rattle.trees.specs.Area.{max_slots};

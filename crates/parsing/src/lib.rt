@@ -1,4 +1,6 @@
 // The parse of lent tokens: as many of them as it can look at are put where the plain parse reads its tokens.
+#![tactic(auto)]
+
 ghost use Rattle.std.specs.Prelude.{◌+◌, ◌*◌, ◌≤◌, length};
 ghost use Rattle.grammar.specs.Rows.{grammar_in};
 ghost use Rattle.trees.specs.Area.{max_slots};

@@ -1,4 +1,6 @@
 // The plain parse: one loop over a stack in the lent work area, which writes the node list. Each turn takes one symbol off the stack and writes one node.
+#![tactic(auto)]
+
 ghost use Rattle.std.specs.Prelude.{◌≡◌, ◌+◌, ◌-◌, ◌*◌, ◌<◌, ◌≤◌, length};
 ghost use Rattle.base.specs.Filled.{Filled};
 ghost use Rattle.grammar.specs.Limits.{max_body, max_nonterminals, columns};

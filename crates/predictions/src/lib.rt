@@ -1,4 +1,6 @@
 // Which production each lookahead predicts, the lowest nonterminal in conflict, and the lowest useless one. `sets` are the words of crate sets.
+#![tactic(auto)]
+
 ghost use Rattle.std.specs.Prelude.{◌≡◌, ◌+◌, ◌-◌, ◌*◌, ◌<◌, ◌≤◌, length};
 ghost use Rattle.base.specs.Blocks.{zeros};
 ghost use Rattle.grammar.specs.Limits.{max_terminals, max_nonterminals, max_productions, columns};

@@ -1,4 +1,6 @@
 // The reply: accepted with its counts, or refused with one reason that holds its own place; and its bytes.
+#![tactic(auto)]
+
 ghost use Rattle.std.specs.Prelude.{◌≡◌, ◌+◌, ◌≤◌, length};
 ghost use Rattle.base.specs.Bytes.{le_bytes};
 ghost use Rattle.base.specs.Blocks.{copied};

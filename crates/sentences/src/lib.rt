@@ -1,5 +1,7 @@
 // The new sentence of an edit: the old tree's leaves and the lent tokens, one behind the other, no more of them than a parse looks at; and a tree's leaves for read back.
 // They are put together in the work area, behind the nodes. The tokens stand behind the nodes, in the same bytes.
+#![tactic(auto)]
+
 ghost use Rattle.std.specs.Prelude.{◌≡◌, ◌+◌, ◌-◌, ◌*◌, ◌<◌, ◌≤◌, ◌∷◌, length, take, drop};
 ghost use Rattle.base.specs.Bytes.{le_bytes};
 ghost use Rattle.base.specs.Blocks.{copied};

@@ -1,5 +1,7 @@
 // The sets of a grammar, by rounds over its productions until nothing changes: which symbols may derive nothing, FIRST, FOLLOW, which are
 // productive and which are reachable. Each symbol has three words of bits (specs/Words.antt).
+#![tactic(auto)]
+
 
 ghost use Rattle.std.specs.Prelude.{◌≡◌, ◌+◌, ◌*◌, ◌<◌, ◌≤◌, length};
 ghost use Rattle.base.specs.Blocks.{zeros};

@@ -1,5 +1,7 @@
 // Reads a grammar image from standard input and prints the grammar, production by production, or where its first bad record stands.
 // A first bad record never stands beyond byte 1,541, the size of the longest image, so that the first 4,096 bytes decide.
+#![tactic(auto)]
+
 use grammar::{GrammarRead, Head};
 use libc::{STDIN_FILENO, STDOUT_FILENO};
 

@@ -1,6 +1,8 @@
 // The tables of a grammar: predictions, then break points. For a fixed lookahead the stems form a tree, so that each symbol has one step down;
 // the symbols of a stem are the bits of a mask, and the highest shared symbol is the first on one stem that is in the other's mask.
 // Lent tables are tested without masks: a break point follows from those one step down either stem.
+#![tactic(auto)]
+
 ghost use Rattle.std.specs.Prelude.{◌≡◌, ◌+◌, ◌-◌, ◌*◌, ◌<◌, ◌≤◌, length, drop};
 ghost use Rattle.base.specs.Tells.{Tells};
 ghost use Rattle.grammar.specs.Limits.{max_terminals, max_nonterminals, columns};

@@ -1,4 +1,6 @@
 // The list of a tree's nodes, eight bytes each, and the tree area that is laid out from it.
+#![tactic(auto)]
+
 ghost use Rattle.std.specs.Prelude.{◌≡◌, ◌+◌, ◌-◌, ◌*◌, ◌<◌, ◌≤◌, length};
 ghost use Rattle.trees.specs.Area.{slot_size, max_slots, area_size, tag_space, slot_bytes, header_bytes, Area, parent_place, next_place};
 ghost use Rattle.base.specs.Bytes.{byte_at, get16, put16};

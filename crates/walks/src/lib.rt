@@ -3,6 +3,8 @@
 // the nodes, behind room for a node for each slot the frames, and behind room for a frame more a mark for each slot, which tells whether it was visited.
 // A slot is held against what is expected when it is visited, so that its symbol, production, parent and links are right; afterwards the header and the slots
 // that were not visited are looked at.
+#![tactic(auto)]
+
 mod closing;
 mod words;
 
