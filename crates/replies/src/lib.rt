@@ -14,7 +14,7 @@ const PLACE_SIZE: usize = 8;
 const REPLY_SIZE: usize = PLACE_SIZE + 6 * WORD_SIZE;
 
 // "the counts total, kept, made, given up"
-#[derive(Drop)]
+#[derive(Clone, Copy)]
 pub struct Counts {
     pub total: u32,
     pub kept: u32,
@@ -23,7 +23,7 @@ pub struct Counts {
 }
 
 // Why a call is refused, each reason with its own place.
-#[derive(Drop)]
+#[derive(Clone, Copy)]
 pub enum Reason {
     BadGrammar(u64),
     UselessSymbol(u64),
@@ -39,7 +39,7 @@ pub enum Reason {
 }
 
 // "A reply is either accepted with its counts, or refused with one reason that holds its own place."
-#[derive(Drop)]
+#[derive(Clone, Copy)]
 pub enum Reply {
     Accepted(Counts),
     Refused(Reason),

@@ -75,7 +75,7 @@ module _ {G : Grammar} {s : List ℕ} (full : Full G s) where
   pub full_suffix_first : {a : ℕ} {xs : List ℕ} → Begin G a xs → (0 < a) × Has (suffix s xs) a
   full_suffix_first b = suffix_first s (starts_of b)
 
-  pub full_follow : {X a : ℕ} → After G a X → Has (get_or s (follows + X) 0) a
+  pub full_follow : {a X : ℕ} → After G a X → Has (get_or s (follows + X) 0) a
   full_follow (a_start e) = rw e full.ends
   full_follow {a = a} (a_first {p = p} {N = M} {M = X} {γ = γ} α β r e b) =
       let q = full_suffix_first b in

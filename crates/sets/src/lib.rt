@@ -2,7 +2,6 @@
 // productive and which are reachable. Each symbol has three words of bits (specs/Words.antt).
 #![tactic(auto)]
 
-
 ghost use Rattle.std.specs.Prelude.{◌≡◌, ◌+◌, ◌*◌, ◌<◌, ◌≤◌, length};
 ghost use Rattle.base.specs.Blocks.{zeros};
 ghost use Rattle.grammar.specs.Limits.{max_terminals, max_productions};

@@ -87,6 +87,7 @@ distinct_right [] ys d = d
 distinct_right (x ∷ xs) ys (Distinct.cons n d) = distinct_right xs ys d
 
 pub distinct_apart : (xs ys : List ℕ) (x : ℕ) → Distinct (xs ++ ys) → Memᴰ x xs → Memᴰ x ys → ⊥
+distinct_apart [] ys x _ i m = elim i [ ]
 distinct_apart (y ∷ xs) ys x (Distinct.cons n d) (Memᴰ.head e) m = n (Memᴰ.append_right xs (Memᴰ.cast (sym e) m))
 distinct_apart (y ∷ xs) ys x (Distinct.cons n d) (Memᴰ.tail k) m = distinct_apart xs ys x d k m
 

@@ -10,6 +10,7 @@ use Rattle.trees.specs.Members.{member}
 use Rattle.trees.specs.Slots.{slot_byte}
 
 linked_one : {b b' : List ℕ} {o : ℕ} {f : Forest} (x : ℕ) → Linked b o f → Linked b' o f → Memᴰ x (slots f) → slot_at b x ≡ slot_at b' x
+linked_one x Linked.nil _ i = elim i [ ]
 linked_one x (Linked.leaf e _ l) (Linked.leaf e' _ l') (Memᴰ.head q) = rw q (e ∙ sym e')
 linked_one x (Linked.leaf e _ l) (Linked.leaf e' _ l') (Memᴰ.tail i) = linked_one x l l' i
 linked_one x (Linked.node e c l) (Linked.node e' c' l') (Memᴰ.head q) = rw q (e ∙ sym e')

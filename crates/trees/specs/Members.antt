@@ -9,6 +9,7 @@ use Rattle.grammar.specs.Each.{Each, each_head, each_tail}
 use Rattle.trees.specs.Area.{Distinct}
 
 pub each_mem : {P : ℕ → Type 0} {x : ℕ} (xs : List ℕ) → Each P xs → Memᴰ x xs → P x
+each_mem [] _ m = elim m [ ]
 each_mem (y ∷ xs) (Each.cons p e) (Memᴰ.head q) = rw q p
 each_mem (y ∷ xs) (Each.cons p e) (Memᴰ.tail m) = each_mem xs e m
 
@@ -66,11 +67,11 @@ without v [] =
     record {
       rest = [];
       short = omega arith;
-      shorter = λ m. absurd (Memᴰ.not_nil m);
+      shorter = λ m. absurd (Memᴰ.not-nil m);
       part = λ m. m;
       stays = λ m n. m;
       apart = λ d. d;
-      gone = λ d m. Memᴰ.not_nil m;
+      gone = λ d m. Memᴰ.not-nil m;
       keeps = λ e. e;
     }
 without v (x ∷ xs) = by_cases (ℕ_discrete v x) here (there (without v xs))
