@@ -76,19 +76,22 @@ module _ {G : Grammar} (one : Single G) where
       let y = vanish_parts (x ∷ []) v in
       clash s y.0 (a_first α β r e (rw h (begin_right y.1 (begin_left β' b))))
 
-  pub unique : {a M : ℕ} {s s' : List ℕ} → Path G a M s → Path G a M s' → s ≡ s'
-  unique (p_end t) (p_end t') = refl
-  unique {a} (p_end t) (p_down {p = p} {γ = γ} α β r e v s) = absurd (omega (arith, t.1, one.left p a γ r))
-  unique {a} (p_down {p = p} {γ = γ} α β r e v s) (p_end t) = absurd (omega (arith, t.1, one.left p a γ r))
-  unique {a} {M} (p_down {p = p} {x = x} {γ = γ} {s = s} α β r e v h) (p_down {p = q} {x = y} {γ = δ} {s = s'} α' β' r' e' v' h') =
-      go (split α (x ∷ β) α' y β' (sym e ∙ z ∙ e')) (λ i. unique h (rw (sym i) at h'))
+  unique_from : {a M N : ℕ} {s s' : List ℕ} → Path G a M s → Path G a N s' → M ≡ N → s ≡ s'
+  unique_from (p_end t) (p_end t') e₀ = refl
+  unique_from (p_end t) (p_down {p = p} {M = N} {γ = γ} α β r e v s) e₀ = absurd (omega (arith, t.1, one.left p N γ r))
+  unique_from (p_down {p = p} {M = M} {γ = γ} α β r e v s) (p_end t) e₀ = absurd (omega (arith, t.1, one.left p M γ r))
+  unique_from {a} (p_down {p = p} {M = M} {x = x} {γ = γ} {s = s} α β r e v h)
+      (p_down {p = q} {M = N} {x = y} {γ = δ} {s = s'} α' β' r' e' v' h') e₀ =
+      go (split α (x ∷ β) α' y β' (sym e ∙ z ∙ e')) (λ i. unique_from h h' i)
     where
+      b : Begin G a γ
+      b = rw e (begin_right v (begin_left β (path_begin h)))
+
+      b' : Begin G a δ
+      b' = rw e' (begin_right v' (begin_left β' (path_begin h')))
+
       z : γ ≡ δ
-      z =
-          rule_body
-          (one.same a M p q γ δ r r' (by_begin (rw e (begin_right v (begin_left β (path_begin h))))) (by_begin (rw e' (begin_right v' (begin_left β' (path_begin h'))))))
-          r
-          r'
+      z = rule_body (one.same a M p q γ δ r (rw (← e₀) at r') (by_begin b) (by_begin b')) r r'
 
       low : (θ : List ℕ) → α' ≡ α ++ θ → x ∷ β ≡ θ ++ y ∷ β' → (x ≡ y → s ≡ s') → s ≡ s'
       low [] i k ih = ih (cc)
@@ -97,9 +100,13 @@ module _ {G : Grammar} (one : Single G) where
           let u : Vanish G (x ∷ θ) = rw m (vanish_parts α (rw i at v')).1 in
           absurd (differ r α β θ β' e (cc) u h (path_begin h'))
 
-      go : ((θ : List ℕ) × (α ≡ α' ++ y ∷ θ) × (β' ≡ θ ++ (x ∷ β))) ⊎ ((θ : List ℕ) × (α' ≡ α ++ θ) × (x ∷ β ≡ θ ++ y ∷ β')) → (x ≡ y → s ≡ s') → M ∷ s ≡ M ∷ s'
+      go : ((θ : List ℕ) × (α ≡ α' ++ y ∷ θ) × (β' ≡ θ ++ (x ∷ β))) ⊎ ((θ : List ℕ) × (α' ≡ α ++ θ) × (x ∷ β ≡ θ ++ y ∷ β'))
+          → (x ≡ y → s ≡ s') → M ∷ s ≡ N ∷ s'
       go (inl k) ih = absurd (differ r' α' β' k.0 β e' k.2 (vanish_parts α' (rw k.1 at v)).1 h' (path_begin h))
-      go (inr k) ih = ap (λ (l : List ℕ). M ∷ l) (low k.0 k.1 k.2 ih)
+      go (inr k) ih = let i : s ≡ s' = low k.0 k.1 k.2 ih in cc
+
+  pub unique : {a M : ℕ} {s s' : List ℕ} → Path G a M s → Path G a M s' → s ≡ s'
+  unique h h' = unique_from h h' refl
 
 -- ---- what a stem passes
 

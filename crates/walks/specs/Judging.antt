@@ -140,6 +140,7 @@ pub data Counts : Kids → ℕ → ℕ → Type 0 where
 pub kin_counts : {rows : List ℕ} {t count x p g r leaf : ℕ} {k : Kids} → Kin rows t count x p g k → Counts k r leaf → leaf ≡ leaf_of p
 kin_counts (Kin.leaf e h) Counts.leaf = sym (ap leaf_of e)
 kin_counts (Kin.node e l o z d) Counts.body = sym (ap leaf_of e)
+kin_counts (Kin.none _ _) c = elim c [ ]
 
 -- ---- the visit
 

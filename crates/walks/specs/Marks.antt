@@ -16,13 +16,13 @@ use Rattle.walks.specs.Frames.{Within}
 -- ---- different numbers
 
 distinct_last : {xs : List ℕ} (y : ℕ) → Distinct xs → (Memᴰ y xs → ⊥) → Distinct (xs ++ (y ∷ []))
-distinct_last y Distinct.nil n = Distinct.cons (λ m. mathlib.Core.List.Memᴰ.not_nil m) Distinct.nil
+distinct_last y Distinct.nil n = Distinct.cons (λ m. mathlib.Core.List.Memᴰ.not-nil m) Distinct.nil
 distinct_last y (Distinct.cons {x = x} {xs = xs} f d) n =
     Distinct.cons (λ m. ⊎_elim f (λ z. n (mathlib.Core.List.Memᴰ.head (sym (mathlib.Core.List.Memᴰ.eq_of_singleton z)))) (mathlib.Core.List.Memᴰ.append_cases xs m))
     (distinct_last y d (λ m. n (mathlib.Core.List.Memᴰ.tail m)))
 
 distinct_apart : (xs : List ℕ) (y : ℕ) (ys : List ℕ) → Distinct (xs ++ (y ∷ ys)) → Memᴰ y xs → ⊥
-distinct_apart [] y ys d m = mathlib.Core.List.Memᴰ.not_nil m
+distinct_apart [] y ys d m = mathlib.Core.List.Memᴰ.not-nil m
 distinct_apart (x ∷ xs) y ys (Distinct.cons f d) m =
     ⊎_elim (λ e. f (mathlib.Core.List.Memᴰ.append_right xs (mathlib.Core.List.Memᴰ.head (sym e)))) (distinct_apart xs y ys d) (mathlib.Core.List.Memᴰ.cases_cons m)
 
@@ -41,7 +41,7 @@ marked_none m k e l =
     record {
       ground = q 0 1 (get_or-set_same (zeros k) 0 1 0 (omega (arith, length_zeros k)));
       once = Distinct.nil;
-      marked = λ s x. absurd (mathlib.Core.List.Memᴰ.not_nil x);
+      marked = λ s x. absurd (mathlib.Core.List.Memᴰ.not-nil x);
       free = λ s o x. q s 0 (get_or-set_other (zeros k) 0 s 1 0 (λ z. omega (arith, o, z)) ∙ byte_zeros k s);
     }
 

@@ -89,6 +89,7 @@ module _ (rows : List ℕ) (head : Head) where
         where
           go : {k : Kids} {v l : ℕ} → Kin rows head.t head.count x (production_in b s) (tag_in b s) k → Counts k v l → Seen S b s par x xs fs → Hangs b s par v
           go k c (Seen.leaf u i p o w y h) = record { parent = p; bare = λ _. y }
+          go (Kin.none _ _) c (Seen.node u i p o w y g h) = elim c [ ]
           go (Kin.leaf z' w') Counts.leaf (Seen.node {q = q} u i p o w y g h) = absurd (omega (arith, o, z'))
           go (Kin.node {q = q'} z' w' y' g' d) Counts.body (Seen.node {q = q} u i p o w y g h) =
               record {
@@ -115,6 +116,7 @@ module _ (rows : List ℕ) (head : Head) where
         o = (h.hangs k).bare e
 
         go : {k : Kids} {v l : ℕ} → Kin rows head.t head.count x (production_in b s) (tag_in b s) k → Counts k v l → v ≡ 0 → Stands G· b ahead written (frame 0 s []) behind
+        go (Kin.none _ _) c e = elim c [ ]
         go (Kin.leaf z y) Counts.leaf e =
             let q : slot_at b s ≡ slot_bytes x 0 par 0 (next_in b s) (tag_in b s) = rw (f.symbol, z, a, o) at f.used.is in
             let j : leaf_node s x (tag_in b s) ≡ written = let i = f.symbol in cc in
@@ -145,6 +147,7 @@ module _ (rows : List ℕ) (head : Head) where
         a = (h.hangs k).parent
 
         go : {k : Kids} {v l : ℕ} → Kin rows head.t head.count x (production_in b s) (tag_in b s) k → Counts k v l → (v ≡ 0 → ⊥) → Bears v
+        go (Kin.none _ _) c m = elim c [ ]
         go (Kin.leaf z y) Counts.leaf m = absurd (m refl)
         go (Kin.node {q = q} z y c g d) Counts.body m =
             let u : slot_at b s ≡ slot_bytes x (suc q) par (first_in b s) (next_in b s) 0 = rw (f.symbol, z, a, g) at f.used.is in
