@@ -68,7 +68,7 @@ module _ {G : Grammar} (g : Prepared G) where
   beyond j e (matches {M = M} {xs = xs} {w = w} t m h) q α s (Derives.leaf {r = f} t' d) (k ∷ u) v' x y z =
       let y' : w ≡ u ++ v' = cc in
       let z' : yield f ≡ u ++ x = cc in
-      omega (arith, beyond j e h q (α ++ M ∷ []) (rw (append_assoc α (M ∷ []) xs) s) d u v' x y' z')
+      omega (arith, beyond {xs = xs} j e h q (α ++ M ∷ []) (rw (append_assoc α (M ∷ []) xs) s) d u v' x y' z')
   beyond j e (matches t m h) q α s (Derives.node r b d) (k ∷ u) v' x y z = no_rule g t r
   beyond j e (expands a r l h) q α s (Derives.leaf t d) (k ∷ u) v' x y z = no_rule g t r
   beyond j e (expands {M = M} {p = p} {γ = γ} {xs = xs} a r l h) q α s (Derives.node {s = o} {p = p'} {k = b} {r = f} r' c d) (k ∷ u) v' x y z =
@@ -76,7 +76,7 @@ module _ {G : Grammar} (g : Prepared G) where
       let m' : Predicts G M k.kind p' = subst (λ (o : List Token). Predicts G M (ahead o) p') z (top (in_sentence α s (Derives.node {s = o} r' c d))) in
       let n : p' ≡ p = ll1_one g.ll1 m' m in
       let γ' = (rule_one (rw n at r') r).1 in
-      beyond j e h q α
+      beyond {xs = γ ++ xs} j e h q α
       (trans s (simp (append_assoc, append-nil) at (steps_in α xs (then (at [] [] r) stop))))
       (derives_join (rw γ' at c) d) (k ∷ u) v' x y (yield_join b f ∙ z)
 
