@@ -18,7 +18,7 @@ use grammar::Head;
 use plain::Parsed;
 
 // The new tree has so many nodes, of which so many kept their slots; or the plain parse refuses the new sentence.
-#[derive(Drop)]
+#[derive(Clone, Copy)]
 pub enum Alteration {
     Altered(usize, usize),
     Syntax(usize, u32),

@@ -33,7 +33,7 @@ fn is_tree(tree: &[u8], slots: usize, rows: &[u8], head: Head) -> bool
 }
 
 // The old tree: its number of nodes, which are listed in the work area; or reply 5 or 6.
-#[derive(Drop)]
+#[derive(Clone, Copy)]
 pub enum OldTree {
     Tree(usize),
     NoTree,

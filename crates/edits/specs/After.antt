@@ -39,6 +39,7 @@ pub first_below : (f f' : Forest) → Same (first f) (first f') → Same (below 
 first_below Forest.nil Forest.nil h = Same.nil
 first_below (Forest.leaf s a g r) (Forest.leaf s' a' g' r') h = Same.nil
 first_below (Forest.node s M p k r) (Forest.node s' M' p' k' r') (Same.node h i) = h
+first_below _ _ h = elim h [ ]
 
 -- a node's children have no more tokens than it
 pub below_tokens : (f : Forest) → tokens (below f) ≤ own f

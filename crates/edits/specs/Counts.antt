@@ -29,7 +29,7 @@ given_up_held u v (GivenUp.free {s = s} f g) =
 -- different numbers that stand in a list of different numbers, and the others of that list
 given_up_count : (ss held : List ℕ) (n : ℕ) → Distinct ss → Distinct held → ((s : ℕ) → Memᴰ s held → Memᴰ s ss) → GivenUp held ss n → length held + n ≡ length ss
 given_up_count [] [] n d d' h GivenUp.nil = refl
-given_up_count [] (x ∷ xs) n d d' h GivenUp.nil = absurd (Memᴰ.not_nil (h x (Memᴰ.head refl)))
+given_up_count [] (x ∷ xs) n d d' h GivenUp.nil = absurd (Memᴰ.not-nil (h x (Memᴰ.head refl)))
 given_up_count (s ∷ ss) held n d d' h (GivenUp.kept m g) =
     let w = without s held in
     let q = given_up_count ss w.rest n (distinct_tail d) (w.apart d')

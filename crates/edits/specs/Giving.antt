@@ -78,13 +78,13 @@ pub record Held (S : ℕ) (hs : List ℕ) : Type 0 where
   pub within : Each (λ s. (1 ≤ s) × (s ≤ S)) (held_of hs)
 
 pub held_in : {x : ℕ} (hs : List ℕ) → Memᴰ x (held_of hs) → Memᴰ x hs × (1 ≤ x)
-held_in [] m = absurd (Memᴰ.not_nil m)
+held_in [] m = absurd (Memᴰ.not-nil m)
 held_in (zero ∷ hs) m = let q = held_in hs m in (Memᴰ.tail q.0, q.1)
 held_in {x} (suc s ∷ hs) m =
     ⊎_elim (λ e. (Memᴰ.head e, omega arith)) (λ z. let q = held_in hs z in (Memᴰ.tail q.0, q.1)) (Memᴰ.cases_cons m)
 
 pub in_held : {x : ℕ} (hs : List ℕ) → Memᴰ x hs → 1 ≤ x → Memᴰ x (held_of hs)
-in_held [] m l = absurd (Memᴰ.not_nil m)
+in_held [] m l = absurd (Memᴰ.not-nil m)
 in_held (zero ∷ hs) m l = ⊎_elim (λ e. absurd (omega arith)) (λ z. in_held hs z l) (Memᴰ.cases_cons m)
 in_held (suc s ∷ hs) m l = ⊎_elim (λ e. Memᴰ.head e) (λ z. Memᴰ.tail (in_held hs z l)) (Memᴰ.cases_cons m)
 
@@ -100,6 +100,7 @@ kept_made (zero ∷ hs) = omega (arith, kept_made hs)
 kept_made (suc s ∷ hs) = omega (arith, kept_made hs)
 
 mem_at : {x : ℕ} (xs : List ℕ) → Memᴰ x xs → (i : ℕ) × (i < length xs) × (x ≡ get_or xs i 0)
+mem_at [] m = elim m [ ]
 mem_at (y ∷ xs) (Memᴰ.head e) = (0, omega arith, e)
 mem_at (y ∷ xs) (Memᴰ.tail m) = let q = mem_at xs m in (suc q.0, omega (arith, q.1), q.2)
 
@@ -164,7 +165,7 @@ length_given (Given.made _ _ _ g) = ap suc (length_given g)
 
 -- a slot of the new tree is held, or it is given
 given_from : {held hs ss : List ℕ} {s y : ℕ} → Given held s hs ss → Memᴰ y ss → Memᴰ y (held_of hs) ⊎ ((Memᴰ y held → ⊥) × (s ≤ y))
-given_from Given.nil m = absurd (Memᴰ.not_nil m)
+given_from Given.nil m = absurd (Memᴰ.not-nil m)
 given_from (Given.kept {x = zero} l g) m = absurd (omega arith)
 given_from (Given.kept {x = suc x} l g) (Memᴰ.head e) = inl (Memᴰ.head e)
 given_from (Given.kept {x = suc x} l g) (Memᴰ.tail m) = ⊎_elim (λ z. inl (Memᴰ.tail z)) (λ z. inr z) (given_from g m)

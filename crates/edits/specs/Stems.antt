@@ -132,12 +132,16 @@ module _ {G : Grammar} (g : Prepared G) where
       (o.0, x.0, x.1)
 
   -- where a node has tokens, one node more stands before its first leaf than in its children
-  grows : {u v : List Token} {s x p : ℕ} {xs ys : List ℕ} {k r f : Forest} → Guided G u (x ∷ xs) (Forest.node s x p k r) → Guided G v (x ∷ ys) f
+  grows_from : {u v : List Token} {s x y p : ℕ} {xs ys : List ℕ} {k r f : Forest} → Guided G u (x ∷ xs) (Forest.node s y p k r) → Guided G v (x ∷ ys) f
       → ahead ((yield k ++ yield r) ++ u) ≡ ahead (yield f ++ v) → 1 ≤ own f → stem f ≡ suc (stem k)
-  grows (Guided.node m e l r c d) (Guided.leaf t d') h o = absurd (omega (arith, t.1, m.0))
-  grows {s = s} (Guided.node m e l r c d) (Guided.node {s = s'} {k = k} {r = f} m' e' l' r' c' d') h o =
+  grows_from (Guided.node m e l r c d) (Guided.leaf t d') h o = absurd (omega (arith, t.1, m.0))
+  grows_from {s = s} (Guided.node m e l r c d) (Guided.node {s = s'} {k = k} {r = f} m' e' l' r' c' d') h o =
       let q = tops (Guided.node {s = s} m e l r c d) (Guided.node {s = s'} m' e' l' r' c' d') h in
       omega (arith, q.1, chain_some (tokens k) (stem k) (stem f) o)
+
+  grows : {u v : List Token} {s x p : ℕ} {xs ys : List ℕ} {k r f : Forest} → Guided G u (x ∷ xs) (Forest.node s x p k r) → Guided G v (x ∷ ys) f
+      → ahead ((yield k ++ yield r) ++ u) ≡ ahead (yield f ++ v) → 1 ≤ own f → stem f ≡ suc (stem k)
+  grows d d' h o = grows_from d d' h o
 
   -- below a node, none of its symbol starts with its first token
   no_nest : (w : List Token) {i par n j a q m t s M p : ℕ} {xs : List ℕ} {k r f : Forest} (u : List Token) → Guided G u xs (Forest.node s M p k r)

@@ -109,6 +109,7 @@ first_tops : (f f' : Forest) → Same (first f) (first f') → (symbol f' ≡ sy
 first_tops Forest.nil Forest.nil h = (refl, refl, refl)
 first_tops (Forest.leaf s a g r) (Forest.leaf s' a' g' r') (Same.leaf h) = (refl, refl, refl)
 first_tops (Forest.node s M p k r) (Forest.node s' M' p' k' r') (Same.node h i) = (refl, refl, refl)
+first_tops _ _ h = elim h [ ]
 
 -- a node is written as another of the same slot, symbol, production, tag and children
 written_as : {b : List ℕ} (f f' : Forest) → top f' ≡ top f → (symbol f' ≡ symbol f) × (production f' ≡ production f) × (tag f' ≡ tag f) → below f' ≡ below f

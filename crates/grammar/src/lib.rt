@@ -44,7 +44,7 @@ pub const SYMBOL_SPACE: usize = 1 + MAX_TERMINALS + MAX_NONTERMINALS;
 pub const BODY_SPACE: usize = 1 + MAX_BODY;
 
 // What a good image's head says, and how many productions follow it.
-#[derive(Drop)]
+#[derive(Clone, Copy)]
 pub struct Head {
     pub t: usize,
     pub n: usize,
@@ -53,7 +53,7 @@ pub struct Head {
 }
 
 // An image is good, or its first bad record stands at an offset.
-#[derive(Drop)]
+#[derive(Clone, Copy)]
 pub enum GrammarRead {
     Good(Head),
     Bad(usize),

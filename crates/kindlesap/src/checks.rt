@@ -12,7 +12,7 @@ use grammar::{GrammarRead, Head};
 use replies::Reason;
 
 // What replies 1 to 3 say of a grammar image.
-#[derive(Drop)]
+#[derive(Clone, Copy)]
 pub enum GrammarChecked {
     Fit(Head),
     Unfit(Reason),

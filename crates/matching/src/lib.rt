@@ -18,7 +18,7 @@ ghost use Rattle.matching.specs.Matching.{Apart, Seeks, Reached, Stepped, Turned
 ghost use Rattle.matching.specs.Through.{Blank, Matches, Matching};
 
 // The index behind a node's subtree, and the number of its tokens.
-#[derive(Drop)]
+#[derive(Clone, Copy)]
 struct Span {
     end: usize,
     width: usize,
@@ -264,7 +264,7 @@ fn reach(
 }
 
 // Where to go on: at this node, which starts with this token.
-#[derive(Drop)]
+#[derive(Clone, Copy)]
 struct Next {
     node: usize,
     token: usize,

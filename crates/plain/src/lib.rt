@@ -15,14 +15,14 @@ use grammar::Head;
 pub const TOKEN_SIZE: usize = 5;
 
 // How many tokens there are, or the first bad record.
-#[derive(Drop)]
+#[derive(Clone, Copy)]
 pub enum Tokens {
     Good(usize),
     Bad(usize),
 }
 
 // How a parse ends: accepted with so many nodes, a syntax error at a token with the expected set, or no room.
-#[derive(Drop)]
+#[derive(Clone, Copy)]
 pub enum Parsed {
     Accepted(usize),
     Syntax(usize, u32),
@@ -30,7 +30,7 @@ pub enum Parsed {
 }
 
 // One symbol is taken off: the parse goes on at a place of the stack and a token, or it is over.
-#[derive(Drop)]
+#[derive(Clone, Copy)]
 pub enum Turn {
     Go(usize, usize),
     Over(Parsed),

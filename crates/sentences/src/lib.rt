@@ -13,7 +13,7 @@ ghost use Rattle.sentences.specs.Forming.{NewSentence};
 ghost use Rattle.sentences.specs.Behind.{Fronted};
 
 // How far the leaves are written: the next node, and the next token.
-#[derive(Drop)]
+#[derive(Clone, Copy)]
 pub struct Reached {
     node: usize,
     token: usize,

@@ -39,14 +39,14 @@ pub const WALK_SIZE: usize = trees::NODE_SIZE * trees::MAX_SLOTS
 const NODE_MARKS: usize = 0x444E;
 
 // The area is the tree of so many nodes, or it is no valid tree.
-#[derive(Drop)]
+#[derive(Clone, Copy)]
 pub enum Walked {
     Tree(usize),
     NoTree,
 }
 
 // A node is a leaf, or its children must have the symbols of this body, or there is no such node.
-#[derive(Drop)]
+#[derive(Clone, Copy)]
 enum Kids {
     Leaf,
     Body(usize),
@@ -54,7 +54,7 @@ enum Kids {
 }
 
 // The walk ended with so many nodes and leaves, or there is none.
-#[derive(Drop)]
+#[derive(Clone, Copy)]
 enum Course {
     Through(usize, usize),
     Astray,
