@@ -85,7 +85,7 @@ keeps_few {w} {ms} {k} h = omega (arith, h.count, kept_made (held_from w ms k 0)
 
 pub marks_none : (w ms m : List ℕ) (n : ℕ) → m ≡ zeros n → Marks w ms 0 m
 marks_none w ms m n e =
-    record { marked = record { held = λ s x. absurd (Memᴰ.not_nil x); free = λ s x. ap (λ (u : List ℕ). byte_at u s) e ∙ byte_zeros n s } }
+    record { marked = record { held = λ s x. absurd (Memᴰ.not-nil x); free = λ s x. ap (λ (u : List ℕ). byte_at u s) e ∙ byte_zeros n s } }
 
 pub keeps_none : (w ms : List ℕ) → Keeps w ms 0 0
 keeps_none w ms = record { count = refl }

@@ -73,6 +73,7 @@ module _ (rows w : List ℕ) (n base : ℕ) (b : Built rows w n base) where
             leaf = λ _. (refl, refl);
             inner = λ v. absurd (v refl);
           }
+      go (Forest.node s M zero c r) i l o = elim i [ ]
       go (Forest.node s M (suc p) c r) (Formed.node v cs rs) l o =
           let u : Entry = record { slot = s; symbol = M; production = suc p; tag = 0 } in
           let vs : List Entry = preorder c ++ preorder r in

@@ -64,7 +64,7 @@ among_true s (x ∷ xs) =
 
 among_false : (s : ℕ) (xs : List ℕ) → among s xs ≡ false → Memᴰ s xs → ⊥
 unfolding among
-among_false s [] = λ e m. mathlib.Core.List.Memᴰ.not_nil m
+among_false s [] = λ e m. mathlib.Core.List.Memᴰ.not-nil m
 among_false s (x ∷ xs) =
     choose_of (λ b. b ≡ false → Memᴰ s (x ∷ xs) → ⊥) (eqb s x) _ _ (λ z e. never (cc))
     (λ z e m. ⊎_elim (eqb-false s x z) (among_false s xs e) (mathlib.Core.List.Memᴰ.cases_cons m))
@@ -76,7 +76,7 @@ apart (s ∷ ss) ts = not (among s ts) && apart ss ts
 
 pub apart_right : {s : ℕ} {ss ts : List ℕ} → apart ss ts ≡ true → Memᴰ s ss → Memᴰ s ts → ⊥
 unfolding apart
-apart_right {ss = []} e m n = mathlib.Core.List.Memᴰ.not_nil m
+apart_right {ss = []} e m n = mathlib.Core.List.Memᴰ.not-nil m
 apart_right {ss = x ∷ ss} {ts} e m n =
     let u = both_true _ _ e in
     let f : Memᴰ x ts → ⊥ = among_false x ts (not-true (among x ts) u.0) in
