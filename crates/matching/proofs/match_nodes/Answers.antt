@@ -20,7 +20,7 @@ go_through-requires c =
     let w = starts_on v c.mark_starts-tokens.ensures.1 in
     let g = gauged_out c.clear.ensures _ _ c.measure.ensures.0 in
     let h = gauged_out u _ _ c.measure-2.ensures.0 in
-    (search rules, search rules, search rules, search rules, search rules, started_in c.mark_starts-tokens.ensures.1 c.mark_starts-tokens.ensures.0, search rules, search rules, search rules, rising_in c.mark_starts-tokens.ensures.1 (rising_old _ _ _ _ _ g h (search rules)), rising_in c.mark_starts-tokens.ensures.1 (rising_new _ _ _ _ h), blank_zeros _ _ w.matches, leaved_in w (leaved _ _ _ _ c.requires.1 h.decreases))
+    (search rules, search rules, search rules, search rules, search rules, started_in c.mark_starts-tokens.ensures.1 c.mark_starts-tokens.ensures.0, search rules, search rules, search rules, rising_in c.mark_starts-tokens.ensures.1 (rising_old _ _ _ _ _ g h (search rules)), rising_in c.mark_starts-tokens.ensures.1 (rising_new _ _ _ _ h), blank_zeros _ _ w.matches, leaved_in w (leaved _ _ _ _ c.requires.1 h.measured))
 
 pub returns : goal.returns
 returns c =

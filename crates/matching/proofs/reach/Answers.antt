@@ -1,4 +1,3 @@
-use borrow.Author.Tests.{not-false}
 use Rattle.matching.specs.Handing.{rise_low, rise_high}
 use Rattle.matching.specs.Matching.{Reached, reached}
 use borrow.Author.Rules.{rules}
@@ -19,4 +18,4 @@ returns-then-n-v c = (Reached.none, search rules, search rules)
 pub returns : goal.returns
 returns c = let x = rise_low c.requires.7 (search rules) (search rules) c.end_of.ensures.0 in
     let y = rise_high c.requires.7 (search rules) (search rules) c.end_of.ensures.0 in
-    (reached _ _ _ c.end_of.ensures.0 c.requires.8 (search rules) x (c.is_apart.ensures.yes (not-false _ c.if-not-is_apart.false)), search rules, search rules)
+    (reached _ _ _ c.end_of.ensures.0 c.requires.8 (search rules) x (c.is_apart.ensures.yes c.if-not-is_apart.false), search rules, search rules)
