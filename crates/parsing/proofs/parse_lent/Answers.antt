@@ -1,0 +1,9 @@
+use Rattle.parsing.specs.Front.{ground_front, ran_front}
+use borrow.Author.Rules.{rules}
+use Rattle.parsing.proofs.parse_lent.Goals as goal
+
+pub parse-requires : goal.parse-requires
+parse-requires c = (ground_front _ _ _ _ _ c.requires.0 _ _ _ _ c.least-r.ensures (search rules) c.copy.ensures, search rules, search rules, search rules)
+
+pub returns : goal.returns
+returns c = ran_front _ _ _ _ _ c.requires.0 _ _ _ _ c.least-r.ensures (search rules) c.copy.ensures (search rules) c.parse.ensures
