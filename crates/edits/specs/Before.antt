@@ -50,11 +50,14 @@ module _ {G : Grammar} (g : Prepared G) where
       let st = stem_same g d (subst (λ (δ : List ℕ). Guided G (yield f' ++ v) δ k') q.1 d') a in
       let i' : 1 ≤ suc (size k' + size f') = omega arith in
       record { forest = Forest.node s' M p' k' f'; node = here x y z w i'; alike = (refl, sym q.0); tokened = st.1 }
-  again {i} {j = j} o u v (Guided.node {k = k} {r = f} m c l r d b) (Guided.node {k = k'} {r = f'} m' c' l' r' d' b') (inside s) e h =
+  again {i} {j = j} o u v (Guided.node {k = k} {r = f} m c l r d b)
+      (Guided.node {k = k'} {r = f'} m' c' l' r' d' b') (inside s) e h =
       let h' : Agree o (yield k ++ (yield f ++ u)) (yield k' ++ (yield f' ++ v)) = rw (append_assoc (yield k) (yield f) u, append_assoc (yield k') (yield f') v) at h in
       let q = predicts_one g c c' (agree_ahead o (yield k ++ (yield f ++ u)) (yield k' ++ (yield f' ++ v)) h') r r' in
-      again_inside (again {i = suc i} {par = i} {n = 0} {j = j} o (yield f ++ u) (yield f' ++ v) d (subst (λ (δ : List ℕ). Guided G (yield f' ++ v) δ k') q.1 d') s e h')
-  again {i} {par} {n} {j} o u v (Guided.node {k = k} {r = f} m c l r d b) (Guided.node {k = k'} {r = f'} m' c' l' r' d' b') (past_node s) e h =
+      let d'' : Guided G (yield f' ++ v) _ k' = subst (λ (δ : List ℕ). Guided G (yield f' ++ v) δ k') q.1 d' in
+      again_inside (again {i = suc i} {par = i} {n = 0} {j = j} o (yield f ++ u) (yield f' ++ v) d d'' s e h')
+  again {i} {par} {n} {j} o u v (Guided.node {k = k} {r = f} m c l r d b)
+      (Guided.node {k = k'} {r = f'} m' c' l' r' d' b') (past_node s) e h =
       let w = (at_token s).0 in
       let z : o ≡ tokens k + (o - tokens k) = omega arith in
       let h' : Agree o (yield k ++ (yield f ++ u)) (yield k' ++ (yield f' ++ v)) = rw (append_assoc (yield k) (yield f) u, append_assoc (yield k') (yield f') v) at h in
@@ -62,7 +65,9 @@ module _ {G : Grammar} (g : Prepared G) where
       let h'' : Agree (tokens k + (o - tokens k)) (yield k ++ (yield f ++ u)) (yield k' ++ (yield f' ++ v)) =
       subst (λ (c : ℕ). Agree c (yield k ++ (yield f ++ u)) (yield k' ++ (yield f' ++ v))) z h' in
       let y = guided_same g (o - tokens k) (yield f ++ u) (yield f' ++ v) d (subst (λ (δ : List ℕ). Guided G (yield f' ++ v) δ k') q.1 d') h'' in
-      again_past (sym (same_size y.0)) (sym (ap (λ (w : List Token). length w) (same_yield y.0))) (again {i = suc i + size k} {par = par} {n = suc n} {j = j + tokens k} (o - tokens k) u v b b' s (omega arith) y.1)
+      again_past (sym (same_size y.0)) (sym (ap (λ (w : List Token). length w) (same_yield y.0)))
+      (again {i = suc i + size k} {par = par} {n = suc n} {j = j + tokens k}
+      (o - tokens k) u v b b' s (omega arith) y.1)
 
 module _ {G : Grammar} {e : Edit} {old new : Forest} (h : Trees G e old new) where
   -- the new tree has the same node there

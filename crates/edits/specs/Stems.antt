@@ -131,15 +131,18 @@ module _ {G : Grammar} (g : Prepared G) where
       let x = stem_same c (subst (λ (δ : List ℕ). Guided G (yield f' ++ v) δ k') o.1 c') h' in
       (o.0, x.0, x.1)
 
-  -- where a node has tokens, one node more stands before its first leaf than in its children
-  grows_from : {u v : List Token} {s x y p : ℕ} {xs ys : List ℕ} {k r f : Forest} → Guided G u (x ∷ xs) (Forest.node s y p k r) → Guided G v (x ∷ ys) f
+  -- what follows, with a symbol of its own in the node
+  grows_from : {u v : List Token} {s x y p : ℕ} {xs ys : List ℕ} {k r f : Forest}
+      → Guided G u (x ∷ xs) (Forest.node s y p k r) → Guided G v (x ∷ ys) f
       → ahead ((yield k ++ yield r) ++ u) ≡ ahead (yield f ++ v) → 1 ≤ own f → stem f ≡ suc (stem k)
   grows_from (Guided.node m e l r c d) (Guided.leaf t d') h o = absurd (omega (arith, t.1, m.0))
   grows_from {s = s} (Guided.node m e l r c d) (Guided.node {s = s'} {k = k} {r = f} m' e' l' r' c' d') h o =
       let q = tops (Guided.node {s = s} m e l r c d) (Guided.node {s = s'} m' e' l' r' c' d') h in
       omega (arith, q.1, chain_some (tokens k) (stem k) (stem f) o)
 
-  grows : {u v : List Token} {s x p : ℕ} {xs ys : List ℕ} {k r f : Forest} → Guided G u (x ∷ xs) (Forest.node s x p k r) → Guided G v (x ∷ ys) f
+  -- where a node has tokens, one node more stands before its first leaf than in its children
+  grows : {u v : List Token} {s x p : ℕ} {xs ys : List ℕ} {k r f : Forest}
+      → Guided G u (x ∷ xs) (Forest.node s x p k r) → Guided G v (x ∷ ys) f
       → ahead ((yield k ++ yield r) ++ u) ≡ ahead (yield f ++ v) → 1 ≤ own f → stem f ≡ suc (stem k)
   grows d d' h o = grows_from d d' h o
 
