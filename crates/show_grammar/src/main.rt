@@ -3,57 +3,61 @@
 #![tactic(auto)]
 
 use grammar::{GrammarRead, Head};
-use libc::{STDIN_FILENO, STDOUT_FILENO};
+use std::io;
+use std::io::Read;
 
-fn print(bytes: &[u8]) {
-    io::write_all(STDOUT_FILENO, bytes);
+const MAX_INPUT: u64 = 4096;
+
+fn print(rt: &impl Print, bytes: &[u8]) -> io::Result<()> {
+    rt.write_all(bytes)
 }
 
-fn print_number(n: usize) {
-    io::print_decimal(STDOUT_FILENO, n as u64);
+fn print_number(rt: &impl Print, n: usize) -> io::Result<()> {
+    rt.print(n)
 }
 
-fn print_field(n: usize) {
-    print(b" ");
-    print_number(n);
+fn print_field(rt: &impl Print, n: usize) -> io::Result<()> {
+    print(rt, b" ")?;
+    print_number(rt, n)
 }
 
 // The left side and the body of the production in row p.
-fn print_production(rows: &[u8], p: usize) {
-    print_field(grammar::left_at(rows, p));
+fn print_production(rt: &impl Print, rows: &[u8], p: usize) -> io::Result<()> {
+    print_field(rt, grammar::left_at(rows, p))?;
     let length = grammar::length_at(rows, p);
     for j in 0..length {
-        print_field(grammar::symbol_at(rows, p, j));
+        print_field(rt, grammar::symbol_at(rows, p, j))?;
     }
-    print(b"\n");
+    print(rt, b"\n")
 }
 
-fn print_grammar(head: Head, rows: &[u8; grammar::ROWS_SIZE]) {
-    print(b"grammar");
-    print_field(head.t);
-    print_field(head.n);
-    print_field(head.start);
-    print_field(head.count);
-    print(b"\n");
+fn print_grammar(rt: &impl Print, head: Head, rows: &[u8; grammar::ROWS_SIZE]) -> io::Result<()> {
+    print(rt, b"grammar")?;
+    print_field(rt, head.t)?;
+    print_field(rt, head.n)?;
+    print_field(rt, head.start)?;
+    print_field(rt, head.count)?;
+    print(rt, b"\n")?;
     let count = head.count;
     for p in 0..count {
-        print_number(p + 1);
-        print_production(rows, p);
+        print_number(rt, p + 1)?;
+        print_production(rt, rows, p)?;
     }
+    Ok(())
 }
 
-fn print_refusal(offset: usize) {
-    print(b"refused 1");
-    print_field(offset);
-    print(b"\n");
+fn print_refusal(rt: &impl Print, offset: usize) -> io::Result<()> {
+    print(rt, b"refused 1")?;
+    print_field(rt, offset)?;
+    print(rt, b"\n")
 }
 
-fn main() {
-    let mut image = io::buffer();
-    let n = io::read_full(STDIN_FILENO, &mut image);
+fn main(rt: HostRuntime) -> io::Result<()> {
+    let mut image = Vec::new(rt.alloc());
+    rt.stdin().take(MAX_INPUT).read_to_end(&mut image)?;
     let mut rows = [0u8; grammar::ROWS_SIZE];
-    match grammar::read_grammar(&image[..n], &mut rows) {
-        GrammarRead::Good(head) => print_grammar(head, &rows),
-        GrammarRead::Bad(offset) => print_refusal(offset),
+    match grammar::read_grammar(&image, &mut rows) {
+        GrammarRead::Good(head) => print_grammar(&rt, head, &rows),
+        GrammarRead::Bad(offset) => print_refusal(&rt, offset),
     }
 }
