@@ -1,6 +1,6 @@
 use borrow.Author.Rules.{rules}
 use Rattle.calls.specs.OrderLaws.{called_without}
-use Rattle.kindlesap.proofs.kindlesap_read_back.Goals as goal
+use Rattle.kindlesap_c.proofs.kindlesap_read_back.Goals as goal
 
 pub returns : goal.returns
 returns c = called_without _ _ _ _ _ c.read_back-r.result (search rules) (search rules)

@@ -1,6 +1,6 @@
 use borrow.Author.Rules.{rules}
 use Rattle.calls.specs.OrderLaws.{called_without}
-use Rattle.kindlesap.proofs.kindlesap_prepare.Goals as goal
+use Rattle.kindlesap_c.proofs.kindlesap_prepare.Goals as goal
 
 pub returns : goal.returns
 returns c = called_without _ _ _ _ _ c.prepare-r.result (search rules) (search rules)
