@@ -15,9 +15,9 @@ use Rattle.replies.specs.declared.Reply.TheVariants.{Accepted}
 use Rattle.calls.specs.Checks.{Sized}
 use Rattle.calls.specs.Prepare.{prepare_with}
 use Rattle.calls.specs.Parse.{parse_counts, Stored, parse_with}
-use Rattle.calls.specs.OrderLaws.{passes, has_counts, require_single}
-use Rattle.calls.specs.CheckLaws.{area_single, sentence_single, parsed_single, given_rest}
-use Rattle.calls.specs.CallsUnique.{stored_one, stored_parses}
+use Rattle.calls.proofs.OrderLaws.{passes, has_counts, require_single}
+use Rattle.calls.proofs.CheckLaws.{area_single, sentence_single, parsed_single, given_rest}
+use Rattle.calls.proofs.CallsUnique.{stored_one, stored_parses}
 use Rattle.worked.specs.Ready.{reference_prepared, reference_fit}
 use Rattle.listing.specs.Text.{digits_of, field, node_rows, first_row, accepted_text, Parsed, Prints, too_long, refused, accepted}
 use Rattle.listing.specs.Printing.{prints_one}

@@ -32,11 +32,11 @@ use Rattle.calls.specs.Prepare.{prepare_with, prepare_call}
 use Rattle.calls.specs.Parse.{up_from, parse_counts, Stored, parse_call}
 use Rattle.calls.specs.Edit.{edit_call}
 use Rattle.calls.specs.ReadBack.{read_counts, read_back_with, read_back_call}
-use Rattle.calls.specs.OrderLaws.{passes, has_counts, require_single, ends_one}
-use Rattle.calls.specs.CheckLaws.{trees_one, valid_sized, valid_holds, given_rest, given_passed}
-use Rattle.calls.specs.CallsUnique.{parse_settled, edit_settled}
-use Rattle.calls.specs.Demand3.{edit_renews}
-use Rattle.calls.specs.RoundTrips.{read_back_one, reads_tree}
+use Rattle.calls.proofs.OrderLaws.{passes, has_counts, require_single, ends_one}
+use Rattle.calls.proofs.CheckLaws.{trees_one, valid_sized, valid_holds, given_rest, given_passed}
+use Rattle.calls.proofs.CallsUnique.{parse_settled, edit_settled}
+use Rattle.calls.proofs.Demand3.{edit_renews}
+use Rattle.calls.proofs.RoundTrips.{read_back_one, reads_tree}
 use Rattle.worked.specs.Ready.{below, reference_fit, cells}
 use Rattle.worked.specs.Entries.{cell, reference_tables}
 use Rattle.worked.specs.Run.{body, lit, leaf, grown, inner, turn, run}
