@@ -10,7 +10,6 @@ ghost use Rattle.listing.specs.Writing.{field_room, line_room, text_room, Writte
 ghost use Rattle.listing.specs.Rows.{slot_row, slot_rows, area_text};
 ghost use Rattle.listing.specs.Printing.{reply_text};
 
-use libc::{STDIN_FILENO, STDOUT_FILENO};
 use replies::Reply;
 
 // "Input above 5,000 bytes prints `refused 7 1000 0`".
@@ -163,10 +162,10 @@ fn list_tokens(tokens: &[u8], out: &mut [u8]) -> usize
     put_reply(out, reply, &tree)
 }
 
-fn main() {
+fn main(rt: HostRuntime) -> std::io::Result<()> {
     let mut input = [0u8; MAX_INPUT + 1];
-    let n = io::read_full(STDIN_FILENO, &mut input);
+    let n = streams::read_full(&mut rt.stdin(), &mut input)?;
     let mut out = [0u8; TEXT_ROOM];
     let k = list_tokens(&input[..n], &mut out);
-    io::write_all(STDOUT_FILENO, &out[..k]);
+    rt.write_all(&out[..k])
 }

@@ -76,6 +76,7 @@ module _ {G : Grammar} (one : Single G) where
       let y = vanish_parts (x ∷ []) v in
       clash s y.0 (a_first α β r e (rw h (begin_right y.1 (begin_left β' b))))
 
+  -- a symbol has one stem: of two symbols that are the same
   unique_from : {a M N : ℕ} {s s' : List ℕ} → Path G a M s → Path G a N s' → M ≡ N → s ≡ s'
   unique_from (p_end t) (p_end t') e₀ = refl
   unique_from (p_end t) (p_down {p = p} {M = N} {γ = γ} α β r e v s) e₀ = absurd (omega (arith, t.1, one.left p N γ r))
@@ -100,8 +101,8 @@ module _ {G : Grammar} (one : Single G) where
           let u : Vanish G (x ∷ θ) = rw m (vanish_parts α (rw i at v')).1 in
           absurd (differ r α β θ β' e (cc) u h (path_begin h'))
 
-      go : ((θ : List ℕ) × (α ≡ α' ++ y ∷ θ) × (β' ≡ θ ++ (x ∷ β))) ⊎ ((θ : List ℕ) × (α' ≡ α ++ θ) × (x ∷ β ≡ θ ++ y ∷ β'))
-          → (x ≡ y → s ≡ s') → M ∷ s ≡ N ∷ s'
+      go : ((θ : List ℕ) × (α ≡ α' ++ y ∷ θ) × (β' ≡ θ ++ (x ∷ β)))
+          ⊎ ((θ : List ℕ) × (α' ≡ α ++ θ) × (x ∷ β ≡ θ ++ y ∷ β')) → (x ≡ y → s ≡ s') → M ∷ s ≡ N ∷ s'
       go (inl k) ih = absurd (differ r' α' β' k.0 β e' k.2 (vanish_parts α' (rw k.1 at v)).1 h' (path_begin h))
       go (inr k) ih = let i : s ≡ s' = low k.0 k.1 k.2 ih in cc
 

@@ -4,9 +4,8 @@
 
 use grammar::{GrammarRead, Head};
 use std::io;
-use std::io::Read;
 
-const MAX_INPUT: u64 = 4096;
+const MAX_INPUT: usize = 4096;
 
 fn print(rt: &impl Print, bytes: &[u8]) -> io::Result<()> {
     rt.write_all(bytes)
@@ -53,10 +52,10 @@ fn print_refusal(rt: &impl Print, offset: usize) -> io::Result<()> {
 }
 
 fn main(rt: HostRuntime) -> io::Result<()> {
-    let mut image = Vec::new(rt.alloc());
-    rt.stdin().take(MAX_INPUT).read_to_end(&mut image)?;
+    let mut image = [0u8; MAX_INPUT];
+    let n = streams::read_full(&mut rt.stdin(), &mut image)?;
     let mut rows = [0u8; grammar::ROWS_SIZE];
-    match grammar::read_grammar(&image, &mut rows) {
+    match grammar::read_grammar(&image[..n], &mut rows) {
         GrammarRead::Good(head) => print_grammar(&rt, head, &rows),
         GrammarRead::Bad(offset) => print_refusal(&rt, offset),
     }

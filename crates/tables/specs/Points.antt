@@ -162,7 +162,8 @@ module _ (rows : List ℕ) (head : Head) (s : List ℕ) (known : Known (grammar_
         pick (inr (Memᴰ.head e)) = has_or_right acc (2 ^ a) y (rw e (one_has a))
         pick (inr (Memᴰ.tail e)) = elim e [ ]
     bits_in {a} (suc k) acc y (p_down {M = M} {s = u} α β r e v h) l m =
-        rw (lt-leb M head.t (row_of r).0) (bits_in {x = next steps head.t a M} k (bit_or acc (2 ^ M)) y (next_path α β r e v h) (omega arith) (pick m))
+        rw (lt-leb M head.t (row_of r).0)
+        (bits_in {x = next steps head.t a M} k (bit_or acc (2 ^ M)) y (next_path α β r e v h) (omega arith) (pick m))
       where
         pick : Has acc y ⊎ Memᴰ y (M ∷ u) → Has (bit_or acc (2 ^ M)) y ⊎ Memᴰ y u
         pick (inl q) = inl (has_or_left acc (2 ^ M) y q)
@@ -178,7 +179,8 @@ module _ (rows : List ℕ) (head : Head) (s : List ℕ) (known : Known (grammar_
         pick (inl h) = inl h
         pick (inr h) = inr (Memᴰ.head (has_one a y h))
     bits_out {a} (suc k) acc y (p_down {M = M} {s = u} α β r e v h) q =
-        pick (bits_out {x = next steps head.t a M} k (bit_or acc (2 ^ M)) y (next_path α β r e v h) (rw (lt-leb M head.t (row_of r).0) at q))
+        let n = next_path α β r e v h in
+        pick (bits_out {x = next steps head.t a M} k (bit_or acc (2 ^ M)) y n (rw (lt-leb M head.t (row_of r).0) at q))
       where
         pick2 : Has acc y ⊎ Has (2 ^ M) y → Has acc y ⊎ Memᴰ y (M ∷ u)
         pick2 (inl g) = inl g
@@ -209,7 +211,8 @@ module _ (rows : List ℕ) (head : Head) (s : List ℕ) (known : Known (grammar_
     shared_highest {a} u' mask (suc k) bits m (p_down {M = M} {s = u} α β r e v h) l =
         choose_of (λ q. Highest q (M ∷ u) u') (hasb mask M) _ _
         (λ z. record { above = []; below = u; is = refl; shared = (bits M).0 (hasb_has mask M z); first = λ y i. elim i [ ] })
-        (λ z. let g = shared_highest {x = next steps head.t a M} u' mask k bits m (next_path α β r e v h) (omega arith) in
+        (λ z. let n = next_path α β r e v h in
+        let g = shared_highest {x = next steps head.t a M} u' mask k bits m n (omega arith) in
         record {
           above = M ∷ g.above;
           below = g.below;

@@ -1,0 +1,22 @@
+// Standard input and output for the programs.
+#![tactic(auto)]
+
+ghost use Rattle.std.specs.Prelude.{◌≤◌, ◌≡◌, length, IfOk};
+
+use std::io::{Read, Result};
+
+// Reads until `buf` is full or the input ends; how many bytes it put at the start of `buf`.
+pub fn read_full<R: Read>(input: &mut R, buf: &mut [u8]) -> Result<usize>
+    ensures within { IfOk result (λ n. n ≤ length buf.new) }
+    ensures len { length buf.new ≡ length buf.old }
+{
+    let mut done = 0;
+    while done < buf.len() {
+        let n = input.read(&mut buf[done..])?;
+        if n == 0 {
+            break;
+        }
+        done += n;
+    }
+    Ok(done)
+}
