@@ -3,7 +3,7 @@
 .PHONY: run example test bench clean
 
 run:
-	rt check listing
+	tests/build-program listing
 	@echo
 	@echo "A rule book, examples/book.txt:"
 	@echo
@@ -19,7 +19,7 @@ run:
 	@echo 'allow host 7' | examples/tokens | tests/run-built target/bin/listing
 
 example:
-	rt staticlib kindlesap
+	tests/build-library
 	@mkdir -p target/c
 	@tests/build-c target/c/edits examples/edits.c
 	@echo
