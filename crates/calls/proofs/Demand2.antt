@@ -19,7 +19,7 @@ use Rattle.replies.specs.declared.Counts.{Counts}
 use Rattle.replies.specs.declared.Reply.{Reply}
 use Rattle.replies.specs.declared.Reason.TheVariants as reasons
 use Rattle.replies.specs.declared.Reply.TheVariants.{Accepted, Refused}
-use Rattle.calls.specs.Order.{counts, Outcome, Called}
+use Rattle.calls.specs.Order.{Outcome, Called}
 use Rattle.calls.specs.Checks.{Sized}
 use Rattle.calls.specs.Prepare.{prepare_with, prepare_call}
 use Rattle.calls.specs.Parse.{parse_counts, Storage, store_call, parse_with, parse_call}
