@@ -1,13 +1,16 @@
-// Standard input and output for the programs.
+// Standard input for the programs.
 #![tactic(auto)]
 
-ghost use Rattle.std.specs.Prelude.{◌≤◌, ◌≡◌, length, IfOk};
+ghost use Rattle.std.specs.Prelude.{◌≤◌, ◌<◌, ◌≡◌, length, take, IfOk};
+ghost use Rattle.std.specs.Io.KnownBytes.{Consumes, IsAtEnd};
 
 use std::io::{Read, Result};
 
 // Reads until `buf` is full or the input ends; how many bytes it put at the start of `buf`.
 pub fn read_full<R: Read>(input: &mut R, buf: &mut [u8]) -> Result<usize>
     ensures within { IfOk result (λ n. n ≤ length buf.new) }
+    ensures bytes { IfOk result (λ n. Consumes (R.remaining input.old) (R.remaining input.new) (take n buf.new)) }
+    ensures whole { IfOk result (λ n. n < length buf.new → IsAtEnd (R.remaining input.new)) }
     ensures len { length buf.new ≡ length buf.old }
 {
     let mut done = 0;
