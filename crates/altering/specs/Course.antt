@@ -15,7 +15,7 @@ use Rattle.trees.specs.Nodes.{leaves_of}
 use Rattle.trees.specs.Coded.{node_size, nodes_from}
 use Rattle.trees.specs.Listing.{nodes_kept}
 use Rattle.walks.specs.Reading.{valid_one, valid_header}
-use Rattle.plain.specs.Exactly.{accepted_exactly}
+use Rattle.plain.proofs.Exactly.{accepted_exactly}
 use Rattle.plain.specs.Tokens.{token_size, Sentence, length_token_bytes, tokens_from, length_tokens}
 use Rattle.plain.specs.Text.{text_in}
 use Rattle.notes.specs.Views.{nodes_in, with_part, nodes_in_lem}

@@ -21,7 +21,7 @@ use Rattle.replies.specs.declared.Reply.TheVariants.{Accepted, Refused}
 use Rattle.calls.specs.Order.{Outcome, refused, passed, accepting}
 use Rattle.calls.specs.Checks.{wrong_syntax, no_room}
 use Rattle.calls.specs.Edit.{renew_call}
-use Rattle.calls.specs.CallsUnique.{altered_parses}
+use Rattle.calls.proofs.CallsUnique.{altered_parses}
 use Rattle.editing.specs.declared.OldTree.{OldTree}
 
 -- ---- replies 5 and 6: the old tree

@@ -7,7 +7,7 @@ use Rattle.grammar.specs.Forest.{Token, Forest, yield, Derives, Tree}
 use Rattle.trees.specs.Area.{slots}
 use Rattle.plain.specs.Traced.{Same}
 use Rattle.plain.specs.Alike.{same_back, same_size, same_yield, same_slots}
-use Rattle.plain.specs.Exactly.{tree_one}
+use Rattle.plain.proofs.Exactly.{tree_one}
 use Rattle.edits.specs.Keeping.{Edit, edited, symbol, own, At, Keeps, Holds, Holding, Given, kept_of, made_of, GivenUp, Altered}
 use Rattle.edits.specs.One.{keeps_one}
 use Rattle.edits.specs.Giving.{at_slot, slot_one, given_one}

@@ -14,7 +14,7 @@ use Rattle.trees.specs.Area.{work_areas, Distinct, Area}
 use Rattle.trees.specs.Nodes.{Node, preorder, lists_forest, build, Formed, build_preorder, derives_formed, Fed, fed_preorder, leaves_of, leaves_yield}
 use Rattle.trees.specs.Coded.{nodes_from, length_nodes, arity_in}
 use Rattle.trees.specs.Spread.{slots_of, Spread, slots_build, size_build}
-use Rattle.plain.specs.Exactly.{accepted_exactly}
+use Rattle.plain.proofs.Exactly.{accepted_exactly}
 use Rattle.plain.specs.Tokens.{tokens_from}
 use Rattle.plain.specs.Text.{parse_size}
 use Rattle.plain.specs.Machine.{Ground, Numbered, Done}
@@ -29,7 +29,7 @@ use Rattle.replies.specs.declared.Reply.TheVariants.{Accepted, Refused}
 use Rattle.calls.specs.Order.{Outcome, refused, passed, accepting, exactly, at}
 use Rattle.calls.specs.Checks.{Sized, area, wrong_syntax, no_room}
 use Rattle.calls.specs.Parse.{up_from, Stored, parse_counts, store_call, parse_with, parse_call}
-use Rattle.calls.specs.CheckLaws.{Fit, given_passed}
+use Rattle.calls.proofs.CheckLaws.{Fit, given_passed}
 use Rattle.kindlesap.specs.declared.checks.GrammarChecked.{GrammarChecked}
 use Rattle.kindlesap.specs.GrammarChecks.{Checks, checked_refused}
 

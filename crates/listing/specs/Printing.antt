@@ -15,9 +15,9 @@ use Rattle.replies.specs.declared.Reply.TheVariants.{Accepted, Refused}
 use Rattle.calls.specs.Order.{Outcome, Ends}
 use Rattle.calls.specs.Prepare.{prepare_call}
 use Rattle.calls.specs.Parse.{up_from, parse_counts, parse_call}
-use Rattle.calls.specs.OrderLaws.{one_outcome, ends_one}
-use Rattle.calls.specs.CallsUnique.{prepare_settled, parse_settled}
-use Rattle.calls.specs.Demand2.{parse_stores}
+use Rattle.calls.proofs.OrderLaws.{one_outcome, ends_one}
+use Rattle.calls.proofs.CallsUnique.{prepare_settled, parse_settled}
+use Rattle.calls.proofs.Demand2.{parse_stores}
 use Rattle.listing.specs.Text.{max_input, refused_text, accepted_text, ParseEnds, Parsed, Prints, too_long, refused, accepted}
 use Rattle.listing.specs.Writing.{Written, written_whole}
 use Rattle.listing.specs.Rows.{area_text, accepted_text_lem}

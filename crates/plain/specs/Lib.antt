@@ -1,12 +1,9 @@
 -- Meaning: the plain parse.
 pub mod Plain
--- Laws: one verdict; the parse over a forest; forests but for slots; which sentences are accepted; reply 9's place; every parse ends.
+-- Laws: one verdict; the parse over a forest; forests but for slots.
 pub mod One
 pub mod Traced
 pub mod Alike
-pub mod Exactly
-pub mod Viable
-pub mod Ends
 pub mod Tokens
 pub mod Parsing
 pub mod Machine

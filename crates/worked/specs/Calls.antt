@@ -14,7 +14,7 @@ use Rattle.replies.specs.declared.Reply.TheVariants.{Accepted, Refused}
 use Rattle.calls.specs.Order.{Call, Outcome, Ends, refused, passed, accepting}
 use Rattle.calls.specs.Checks.{Sized, wrong_syntax, no_room}
 use Rattle.calls.specs.Parse.{up_from, Stored, parse_counts, Storage, parse_with, parse_call}
-use Rattle.calls.specs.CheckLaws.{given_passed}
+use Rattle.calls.proofs.CheckLaws.{given_passed}
 use Rattle.worked.specs.Ready.{reference_fit}
 use Rattle.worked.specs.Entries.{reference_tables, reference_tables_lem}
 use Rattle.worked.specs.Ordered.{stores, stored_laid}

@@ -12,7 +12,7 @@ use Rattle.trees.specs.Area.{work_areas, tag_space, slots, Area, Valid}
 use Rattle.trees.specs.Nodes.{Node, leaf_node, inner_node, preorder, build}
 use Rattle.plain.specs.Plain.{syntax, Parses}
 use Rattle.plain.specs.Alike.{same_slots}
-use Rattle.plain.specs.Exactly.{tree_one}
+use Rattle.plain.proofs.Exactly.{tree_one}
 use Rattle.plain.specs.Tokens.{Tagged, token_bytes, Sentence, good_linked}
 use Rattle.edits.specs.Keeping.{Edit, edit_of, edited, Holding, kept_of, made_of, GivenUp, Altered}
 use Rattle.edits.specs.Giving.{holding_held, given_spread}
@@ -22,8 +22,8 @@ use Rattle.replies.specs.declared.Reply.TheVariants.{Accepted, Refused}
 use Rattle.calls.specs.Order.{Call, ◌>>◌, Outcome, refused, passed, accepting, exactly}
 use Rattle.calls.specs.Checks.{range, wrong_syntax}
 use Rattle.calls.specs.Edit.{renew_call, edit_with}
-use Rattle.calls.specs.CheckLaws.{valid_sized, valid_holds, given_passed}
-use Rattle.calls.specs.CallsUnique.{altered_parses}
+use Rattle.calls.proofs.CheckLaws.{valid_sized, valid_holds, given_passed}
+use Rattle.calls.proofs.CallsUnique.{altered_parses}
 use Rattle.worked.specs.Ready.{reference_prepared, reference_fit}
 use Rattle.worked.specs.Entries.{reference_tables, reference_tables_lem}
 use Rattle.worked.specs.Run.{body, run, run_right}

@@ -9,13 +9,12 @@ use Rattle.grammar.specs.Grammar.{Grammar}
 use Rattle.grammar.specs.Prediction.{Break}
 use Rattle.grammar.specs.Rows.{symbol_space, grammar_in}
 use Rattle.grammar.specs.Reference.{reference}
-use Rattle.tables.specs.Tables.{table_rows, row_size, predictions_size, breaks_size, row_symbol, prediction_place, break_place, Prediction, Tables}
-use Rattle.tables.specs.One.{prediction_one, break_one}
+use Rattle.tables.specs.Tables.{table_rows, row_size, predictions_size, breaks_size, row_symbol, break_place, Prediction, Tables}
 use Rattle.tables.specs.Cells.{stem_bits, point_of}
 use Rattle.tables.specs.Points.{point}
 use Rattle.tables.specs.Outcome.{cell_prediction}
 use Rattle.worked.specs.Words.{head, rows, words, is_reference, known}
-use Rattle.worked.specs.Ready.{prepared, reference_prepared, cells, listed, steps, step_is}
+use Rattle.worked.specs.Ready.{prepared, cells, listed, steps, step_is}
 
 -- the prediction of row R at lookahead a
 unfoldable pub cell : ℕ → ℕ → ℕ
@@ -112,22 +111,3 @@ prediction_byte R a = R * 32 + a
 -- "The break points start at byte 1,024: entry (M×32+N)×32+a"
 abbrev pub break_byte : (R Q a : ℕ) → ℕ
 break_byte R Q a = 1024 + ((R * 32 + Q) * 32 + a)
-
-module _ {w : List ℕ} (t : Tables reference w) where
-  pub prediction_byte_lem : (R a : ℕ) → R < 32 → a < 32 → get_or w (prediction_byte R a) 0 ≡ cell R a
-  prediction_byte_lem R a l k =
-      let q : prediction_place R a ≡ prediction_byte R a = omega arith in
-      rw q at (prediction_one reference_prepared (t.prediction R a l k) (cell_is R a l k))
-
-  pub break_byte_lem : (R Q a : ℕ) → R < 5 → Q < 5 → a < 32 → get_or w (break_byte R Q a) 0 ≡ entry (6 + R) (6 + Q) a
-  unfolding reference
-  break_byte_lem R Q a l m k =
-      let q : predictions_size + break_place R Q a ≡ break_byte R Q a = omega arith in
-      rw q at (break_one reference_prepared (t.break R Q a l m k) (entry_is (6 + R) (6 + Q) a (omega arith) (omega arith) k))
-
-  -- beyond the five nonterminals
-  pub other_byte : (R Q a : ℕ) → R < 32 → Q < 32 → a < 32 → (R < 5 → Q < 5 → ⊥) → get_or w (break_byte R Q a) 0 ≡ 0
-  unfolding reference
-  other_byte R Q a l m k n =
-      let q : predictions_size + break_place R Q a ≡ break_byte R Q a = omega arith in
-      rw q at (t.other R Q a l m k n)

@@ -10,7 +10,7 @@ use Rattle.trees.specs.Members.{each_mem}
 use Rattle.plain.specs.Plain.{accepted, Parses}
 use Rattle.plain.specs.Traced.{Same}
 use Rattle.plain.specs.Alike.{same_size, same_yield}
-use Rattle.plain.specs.Exactly.{accepted_exactly}
+use Rattle.plain.proofs.Exactly.{accepted_exactly}
 use Rattle.plain.specs.Tokens.{Tagged}
 use Rattle.calls.specs.Parse.{up_from, Stored}
 use Rattle.worked.specs.Laid.{laid}

@@ -1,5 +1,5 @@
 use borrow.Author.Rules.{rules}
-use Rattle.calls.specs.OrderLaws.{called_without}
+use Rattle.calls.proofs.OrderLaws.{called_without}
 use Rattle.kindlesap_c.proofs.kindlesap_prepare.Goals as goal
 
 pub returns : goal.returns

@@ -1,4 +1,3 @@
-use Rattle.std.proofs.Common.{◌-◌}
 use Rattle.listing.specs.Rows.{rows_none, rows_turn, rows_all}
 use borrow.Author.Rules.{rules}
 use Rattle.listing.proofs.put_nodes.Goals as goal

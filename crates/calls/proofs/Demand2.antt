@@ -11,8 +11,8 @@ use Rattle.tables.specs.Tables.{tables_size, Tables}
 use Rattle.tables.specs.One.{tables_one}
 use Rattle.trees.specs.Area.{work_areas, Valid}
 use Rattle.plain.specs.Plain.{Verdict, Parses}
-use Rattle.plain.specs.Exactly.{Fitting}
-use Rattle.plain.specs.Viable.{Longest}
+use Rattle.plain.proofs.Exactly.{Fitting}
+use Rattle.plain.proofs.Viable.{Longest}
 use Rattle.plain.specs.Tokens.{Sentence}
 use Rattle.replies.specs.Reply.{word_size, number_of}
 use Rattle.replies.specs.declared.Counts.{Counts}
@@ -23,10 +23,10 @@ use Rattle.calls.specs.Order.{counts, Outcome, Called}
 use Rattle.calls.specs.Checks.{Sized}
 use Rattle.calls.specs.Prepare.{prepare_with, prepare_call}
 use Rattle.calls.specs.Parse.{parse_counts, Storage, store_call, parse_with, parse_call}
-use Rattle.calls.specs.OrderLaws.{SaysZero, zero_exactly, one_outcome, any_before, require_single, exactly_numbered, placed_numbered, passes, goes_by, has_passed, has_counts, is_accepted}
-use Rattle.calls.specs.CheckLaws.{Fit, area_single, sentence_single, given_rest, given_by}
-use Rattle.calls.specs.CallsUnique.{parse_settled, stored_parses}
-use Rattle.calls.specs.Verdicts.{Answers, Decided, by_zero, by_nine, decided_early, Answered, answered_exactly, answered_place, answered_fits, answered_zero, parsed_answered, accepted_size}
+use Rattle.calls.proofs.OrderLaws.{SaysZero, zero_exactly, one_outcome, any_before, require_single, exactly_numbered, placed_numbered, passes, goes_by, has_passed, has_counts, is_accepted}
+use Rattle.calls.proofs.CheckLaws.{Fit, area_single, sentence_single, given_rest, given_by}
+use Rattle.calls.proofs.CallsUnique.{parse_settled, stored_parses}
+use Rattle.calls.proofs.Verdicts.{Answers, Decided, by_zero, by_nine, decided_early, Answered, answered_exactly, answered_place, answered_fits, answered_zero, parsed_answered, accepted_size}
 
 -- ---- prepare
 

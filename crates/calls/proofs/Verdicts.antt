@@ -6,8 +6,8 @@ use Rattle.grammar.specs.Prediction.{Prepared}
 use Rattle.grammar.specs.Forest.{Token}
 use Rattle.plain.specs.Plain.{Verdict, accepted, syntax, out_of_room, Parses}
 use Rattle.plain.specs.One.{runs_one}
-use Rattle.plain.specs.Exactly.{Fitting, accepted_exactly}
-use Rattle.plain.specs.Viable.{Longest, place_longest}
+use Rattle.plain.proofs.Exactly.{Fitting, accepted_exactly}
+use Rattle.plain.proofs.Viable.{Longest, place_longest}
 use Rattle.replies.specs.Reply.{number_of, place_of, expected_of, counts_of}
 use Rattle.replies.specs.declared.Counts.{Counts}
 use Rattle.replies.specs.declared.Reply.{Reply}

@@ -11,14 +11,14 @@ use Rattle.trees.specs.AreaOne.{area_one}
 use Rattle.plain.specs.Plain.{accepted, Parses}
 use Rattle.plain.specs.Traced.{Same}
 use Rattle.plain.specs.Alike.{same_slots, same_size}
-use Rattle.plain.specs.Exactly.{accepted_exactly, tree_one}
+use Rattle.plain.proofs.Exactly.{accepted_exactly, tree_one}
 use Rattle.edits.specs.Keeping.{Edit, edited, Altered}
 use Rattle.edits.specs.Uniqueness.{altered_one}
 use Rattle.replies.specs.declared.Counts.{Counts}
 use Rattle.calls.specs.Order.{Called}
 use Rattle.calls.specs.Checks.{AreaHolds}
-use Rattle.calls.specs.OrderLaws.{Settled, called_one, require_single}
-use Rattle.calls.specs.CheckLaws.{area_single, tree_single, sentence_single, parsed_single, given_settled}
+use Rattle.calls.proofs.OrderLaws.{Settled, called_one, require_single}
+use Rattle.calls.proofs.CheckLaws.{area_single, tree_single, sentence_single, parsed_single, given_settled}
 use Rattle.calls.specs.Prepare.{prepare_with, prepare_call}
 use Rattle.calls.specs.Parse.{up_from, Stored, parse_counts, Storage, store_call, parse_with, parse_call}
 use Rattle.calls.specs.Edit.{Renewal, renew_call, edit_with, edit_call}

@@ -11,8 +11,8 @@ use Rattle.tables.specs.Tables.{Tables}
 use Rattle.trees.specs.Area.{work_areas, slot_at, top, Valid}
 use Rattle.plain.specs.Plain.{Verdict, Parses}
 use Rattle.plain.specs.Traced.{Same, terminals}
-use Rattle.plain.specs.Exactly.{Fitting, tree_one}
-use Rattle.plain.specs.Viable.{Longest}
+use Rattle.plain.proofs.Exactly.{Fitting, tree_one}
+use Rattle.plain.proofs.Viable.{Longest}
 use Rattle.plain.specs.Tokens.{token_bytes, Sentence, Good, good_of, good_kinds, good_tags, good_linked, sentence_one}
 use Rattle.edits.specs.Keeping.{Edit, edit_of, edited, Node, Keeps, Altered}
 use Rattle.edits.specs.Places.{tree_size}
@@ -31,11 +31,11 @@ use Rattle.calls.specs.Order.{Outcome, Called}
 use Rattle.calls.specs.Checks.{AreaHolds}
 use Rattle.calls.specs.Parse.{parse_call}
 use Rattle.calls.specs.Edit.{Renewal, renew_call, edit_with, edit_call}
-use Rattle.calls.specs.OrderLaws.{SaysZero, zero_exactly, require_single, exactly_numbered, placed_numbered, passes, goes_by, has_passed, has_counts, is_accepted}
-use Rattle.calls.specs.CheckLaws.{Fit, valid_of, valid_sized, valid_holds, area_single, tree_single, sentence_single, given_rest, given_by}
-use Rattle.calls.specs.CallsUnique.{altered_parses}
-use Rattle.calls.specs.Verdicts.{Answers, Decided, by_zero, by_nine, decided_early, Alike, Answered, answered_exactly, answered_alike, answered_place, answered_fits, answered_zero, parsed_answered, accepted_size}
-use Rattle.calls.specs.Demand2.{ParseStores, parse_stores, parse_answered}
+use Rattle.calls.proofs.OrderLaws.{SaysZero, zero_exactly, require_single, exactly_numbered, placed_numbered, passes, goes_by, has_passed, has_counts, is_accepted}
+use Rattle.calls.proofs.CheckLaws.{Fit, valid_of, valid_sized, valid_holds, area_single, tree_single, sentence_single, given_rest, given_by}
+use Rattle.calls.proofs.CallsUnique.{altered_parses}
+use Rattle.calls.proofs.Verdicts.{Answers, Decided, by_zero, by_nine, decided_early, Alike, Answered, answered_exactly, answered_alike, answered_place, answered_fits, answered_zero, parsed_answered, accepted_size}
+use Rattle.calls.proofs.Demand2.{ParseStores, parse_stores, parse_answered}
 
 -- ---- what edit has found
 

@@ -21,7 +21,7 @@ use Rattle.replies.specs.declared.Reply.{Reply}
 use Rattle.replies.specs.declared.Reason.TheVariants as reasons
 use Rattle.replies.specs.declared.Reply.TheVariants.{Refused}
 use Rattle.calls.specs.Order.{Call, Outcome, refused, passed, exactly, at}
-use Rattle.calls.specs.OrderLaws.{Single, Settled, find_single, none_single, placed_numbered, placed_one, placed_apart, passes, goes_by}
+use Rattle.calls.proofs.OrderLaws.{Single, Settled, find_single, none_single, placed_numbered, placed_one, placed_apart, passes, goes_by}
 use Rattle.calls.specs.Checks.{readable, given, Sized, area, AreaHolds, tree_in, sentence, Rejected, wrong_syntax, no_room, parsed}
 
 pub readable_single : {image : List ℕ} → Single (readable image)

@@ -18,11 +18,11 @@ use Rattle.calls.specs.Checks.{needed}
 use Rattle.calls.specs.Parse.{parse_call}
 use Rattle.calls.specs.Edit.{edit_call}
 use Rattle.calls.specs.ReadBack.{read_counts, read_back_with, read_back_call}
-use Rattle.calls.specs.OrderLaws.{one_outcome}
-use Rattle.calls.specs.CheckLaws.{Fit, valid_sized, valid_holds, given_passed}
-use Rattle.calls.specs.CallsUnique.{read_back_settled}
-use Rattle.calls.specs.Demand2.{parse_stores, stores_valid}
-use Rattle.calls.specs.Demand3.{Renewed, edit_renews}
+use Rattle.calls.proofs.OrderLaws.{one_outcome}
+use Rattle.calls.proofs.CheckLaws.{Fit, valid_sized, valid_holds, given_passed}
+use Rattle.calls.proofs.CallsUnique.{read_back_settled}
+use Rattle.calls.proofs.Demand2.{parse_stores, stores_valid}
+use Rattle.calls.proofs.Demand3.{Renewed, edit_renews}
 
 -- read back of an area gives one reply and output
 pub read_back_one : {image tree output : List ℕ} (r s : Reply) (v w : List ℕ)
