@@ -1,5 +1,5 @@
 -- What a write of some bytes leaves: the others stay, and with them the numbers that stand there. Numbers of eight bytes.
-use Rattle.std.specs.Prelude.{ℕ, ◌+◌, ◌-◌, ◌*◌, ◌/◌, ◌%◌, ◌≤◌, ◌<◌, ◌≡◌, ◌⊎◌, List, length, set}
+use Rattle.std.specs.Prelude.{ℕ, ◌+◌, ◌*◌, ◌/◌, ◌%◌, ◌≤◌, ◌<◌, ◌≡◌, ◌⊎◌, List, length, set}
 use Rattle.std.proofs.Common.{sym, ◌∙◌, inl, inr, length-set, get_or-set_other, arith}
 use Rattle.base.specs.Bytes.{byte_at, get16, get32, put16, length_put16, get_put16, byte_put16, get32_two}
 

@@ -17,7 +17,8 @@ use Rattle.edits.specs.Uniqueness.{altered_one}
 use Rattle.replies.specs.declared.Counts.{Counts}
 use Rattle.calls.specs.Order.{Called}
 use Rattle.calls.specs.Checks.{AreaHolds}
-use Rattle.calls.proofs.OrderLaws.{Settled, called_one, require_single}
+use Rattle.calls.proofs.OrderLaws.{called_one, require_single}
+use Rattle.calls.specs.OrderLaws.{Settled}
 use Rattle.calls.proofs.CheckLaws.{area_single, tree_single, sentence_single, parsed_single, given_settled}
 use Rattle.calls.specs.Prepare.{prepare_with, prepare_call}
 use Rattle.calls.specs.Parse.{up_from, Stored, parse_counts, Storage, store_call, parse_with, parse_call}

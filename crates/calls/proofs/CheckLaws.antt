@@ -4,9 +4,7 @@ use Rattle.std.proofs.Common.{ap, ◌∙◌, subst, arith}
 use Rattle.base.specs.Choose.{never}
 use Rattle.base.specs.Blocks.{zeros, byte_zeros}
 use Rattle.grammar.specs.Grammar.{Grammar}
-use Rattle.grammar.specs.Derivation.{Useless, Lowest}
-use Rattle.grammar.specs.Prediction.{Prepared, Conflict}
-use Rattle.grammar.specs.Image.{Image, Bad}
+use Rattle.grammar.specs.Prediction.{Prepared}
 use Rattle.grammar.specs.Images.{image_one, good_not_bad, bad_one}
 use Rattle.grammar.specs.Forest.{Token, Forest}
 use Rattle.trees.specs.Area.{header_bytes, slot_at, Area, Valid}
@@ -21,8 +19,10 @@ use Rattle.replies.specs.declared.Reply.{Reply}
 use Rattle.replies.specs.declared.Reason.TheVariants as reasons
 use Rattle.replies.specs.declared.Reply.TheVariants.{Refused}
 use Rattle.calls.specs.Order.{Call, Outcome, refused, passed, exactly, at}
-use Rattle.calls.proofs.OrderLaws.{Single, Settled, find_single, none_single, placed_numbered, placed_one, placed_apart, passes, goes_by}
+use Rattle.calls.proofs.OrderLaws.{find_single, none_single, placed_numbered, placed_one, placed_apart, passes, goes_by}
+use Rattle.calls.specs.OrderLaws.{Single, Settled}
 use Rattle.calls.specs.Checks.{readable, given, Sized, area, AreaHolds, tree_in, sentence, Rejected, wrong_syntax, no_room, parsed}
+use Rattle.calls.specs.CheckLaws.{Fit, Unfit, bad_image, useless, conflict}
 
 pub readable_single : {image : List ℕ} → Single (readable image)
 readable_single = record { finds = image_one; reason = λ f g. placed_one (λ k l. bad_one) f g; apart = λ i f. placed_apart (λ k. good_not_bad) i f }
@@ -83,18 +83,6 @@ parsed_single {G} {S} {w} g = record { finds = λ p q. let e = runs_one g p q in
     apart h (no_room q) = let e = runs_one g h q in never (cc)
 
 -- ---- replies 1 to 3
-
--- the image is that of a grammar that is well formed, has no useless nonterminal and is LL(1)
-pub record Fit (image : List ℕ) (G : Grammar) : Type 0 where
-  pub reads : Image image G
-  pub prepared : Prepared G
-
--- the reason of the three replies
-pub data Unfit (image : List ℕ) : Reason → Type 0 where
-  bad_image : {k : ℕ} → Bad image k → Unfit image (reasons.BadGrammar k)
-  useless : {G : Grammar} {M : ℕ} → Image image G → Lowest (Useless G) M → Unfit image (reasons.UselessSymbol M)
-  conflict : {G : Grammar} {M : ℕ} → Image image G → ((N : ℕ) → Useless G N → ⊥) → Lowest (Conflict G) M
-      → Unfit image (reasons.NotLl1 M)
 
 module _ {B : Type 0} {image : List ℕ} (next : Grammar → Call B) where
   pub given_settled : ((G : Grammar) → Prepared G → Settled (next G)) → Settled (given image next)

@@ -11,29 +11,27 @@ use Rattle.tables.specs.Tables.{tables_size, Tables}
 use Rattle.tables.specs.One.{tables_one}
 use Rattle.trees.specs.Area.{work_areas, Valid}
 use Rattle.plain.specs.Plain.{Verdict, Parses}
-use Rattle.plain.proofs.Exactly.{Fitting}
-use Rattle.plain.proofs.Viable.{Longest}
+use Rattle.plain.specs.Exactly.{Fitting}
 use Rattle.plain.specs.Tokens.{Sentence}
 use Rattle.replies.specs.Reply.{word_size, number_of}
 use Rattle.replies.specs.declared.Counts.{Counts}
 use Rattle.replies.specs.declared.Reply.{Reply}
 use Rattle.replies.specs.declared.Reason.TheVariants as reasons
 use Rattle.replies.specs.declared.Reply.TheVariants.{Accepted, Refused}
-use Rattle.calls.specs.Order.{counts, Outcome, Called}
+use Rattle.calls.specs.Order.{Outcome, Called}
 use Rattle.calls.specs.Checks.{Sized}
 use Rattle.calls.specs.Prepare.{prepare_with, prepare_call}
 use Rattle.calls.specs.Parse.{parse_counts, Storage, store_call, parse_with, parse_call}
-use Rattle.calls.proofs.OrderLaws.{SaysZero, zero_exactly, one_outcome, any_before, require_single, exactly_numbered, placed_numbered, passes, goes_by, has_passed, has_counts, is_accepted}
-use Rattle.calls.proofs.CheckLaws.{Fit, area_single, sentence_single, given_rest, given_by}
+use Rattle.calls.proofs.OrderLaws.{zero_exactly, one_outcome, any_before, require_single, exactly_numbered, placed_numbered, passes, goes_by, has_passed, has_counts, is_accepted}
+use Rattle.calls.specs.OrderLaws.{SaysZero}
+use Rattle.calls.proofs.CheckLaws.{area_single, sentence_single, given_rest, given_by}
+use Rattle.calls.specs.CheckLaws.{Fit}
 use Rattle.calls.proofs.CallsUnique.{parse_settled, stored_parses}
-use Rattle.calls.proofs.Verdicts.{Answers, Decided, by_zero, by_nine, decided_early, Answered, answered_exactly, answered_place, answered_fits, answered_zero, parsed_answered, accepted_size}
+use Rattle.calls.proofs.Verdicts.{decided_early, answered_exactly, answered_place, answered_fits, answered_zero, parsed_answered, accepted_size}
+use Rattle.calls.specs.Verdicts.{Answers, Decided, by_zero, by_nine, Answered}
+use Rattle.calls.specs.Demand2.{FitImage, ParseReached, ParseStores, ParseStops}
 
 -- ---- prepare
-
--- the image is that of a grammar that is well formed, has no useless nonterminal and is LL(1)
-pub record FitImage (image : List ℕ) : Type 0 where
-  pub grammar : Grammar
-  pub fit : Fit image grammar
 
 module _ {image : List ℕ} {long : ℕ} {tables tables' : List ℕ} {r : Reply}
     (h : Outcome (prepare_call image long) tables r tables') where
@@ -64,19 +62,6 @@ prepare_called l k h = zero_exactly k h (prepare_exactly h.ends.outcome l)
 
 -- ---- parse
 
--- parse has passed its checks up to reply 7: the grammar, the slots and the sentence that they found
-pub record ParseReached (image tables tokens : List ℕ) (room long : ℕ) (tree : List ℕ) (r : Reply)
-    (tree' : List ℕ) : Type 0 where
-  pub grammar : Grammar
-  pub fit : Fit image grammar
-  pub right : Tables grammar tables
-  pub slots : ℕ
-  pub sized : Sized slots long
-  pub enough : work_areas * long ≤ room
-  pub sentence : List Token
-  pub spelt : Sentence grammar.t tokens sentence
-  pub last : Outcome (store_call grammar slots sentence) tree r tree'
-
 -- the plain parse then decides
 pub store_answered : {G : Grammar} {S : ℕ} {w : List Token} {tree tree' : List ℕ} {r : Reply} → Prepared G → 1 ≤ S
     → Outcome (store_call G S w) tree r tree' → Answered G S w r
@@ -86,18 +71,6 @@ store_answered g l h =
 store_storage : {G : Grammar} {S : ℕ} {w : List Token} {tree tree' : List ℕ} {r : Reply} (c : Counts) → r ≡ Accepted c
     → Outcome (store_call G S w) tree r tree' → Storage G S w c tree'
 store_storage c e h = is_accepted e (has_passed (ap number_of e) h).2
-
--- of an accepted parse: the sentence's tree, its counts and its area
-pub record ParseStores (image tables tokens : List ℕ) (room long : ℕ) (tree : List ℕ) (c : Counts)
-    (tree' : List ℕ) : Type 0 where
-  pub reached : ParseReached image tables tokens room long tree (Accepted c) tree'
-  pub storage : Storage reached.grammar reached.slots reached.sentence c tree'
-
--- of reply 9: the sentence's longest beginning that begins some sentence of the language
-pub record ParseStops (image tables tokens : List ℕ) (room long : ℕ) (tree : List ℕ) (place expected : ℕ)
-    (tree' : List ℕ) : Type 0 where
-  pub reached : ParseReached image tables tokens room long tree (Refused (reasons.Syntax place expected)) tree'
-  pub longest : Longest reached.grammar reached.sentence place
 
 module _ {image tables tokens : List ℕ} {room long : ℕ} {tree : List ℕ} where
   pub parse_reached : {r : Reply} {tree' : List ℕ} → Decided r

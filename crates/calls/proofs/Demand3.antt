@@ -11,10 +11,11 @@ use Rattle.tables.specs.Tables.{Tables}
 use Rattle.trees.specs.Area.{work_areas, slot_at, top, Valid}
 use Rattle.plain.specs.Plain.{Verdict, Parses}
 use Rattle.plain.specs.Traced.{Same, terminals}
-use Rattle.plain.proofs.Exactly.{Fitting, tree_one}
-use Rattle.plain.proofs.Viable.{Longest}
+use Rattle.plain.proofs.Exactly.{tree_one}
+use Rattle.plain.specs.Exactly.{Fitting}
+use Rattle.plain.specs.Viable.{Longest}
 use Rattle.plain.specs.Tokens.{token_bytes, Sentence, Good, good_of, good_kinds, good_tags, good_linked, sentence_one}
-use Rattle.edits.specs.Keeping.{Edit, edit_of, edited, Node, Keeps, Altered}
+use Rattle.edits.specs.Keeping.{Edit, edit_of, edited, Node, Keeps}
 use Rattle.edits.specs.Places.{tree_size}
 use Rattle.edits.specs.Edited.{Trees, altered_trees}
 use Rattle.edits.specs.Before.{before_keeps}
@@ -31,27 +32,18 @@ use Rattle.calls.specs.Order.{Outcome, Called}
 use Rattle.calls.specs.Checks.{AreaHolds}
 use Rattle.calls.specs.Parse.{parse_call}
 use Rattle.calls.specs.Edit.{Renewal, renew_call, edit_with, edit_call}
-use Rattle.calls.proofs.OrderLaws.{SaysZero, zero_exactly, require_single, exactly_numbered, placed_numbered, passes, goes_by, has_passed, has_counts, is_accepted}
-use Rattle.calls.proofs.CheckLaws.{Fit, valid_of, valid_sized, valid_holds, area_single, tree_single, sentence_single, given_rest, given_by}
+use Rattle.calls.proofs.OrderLaws.{zero_exactly, require_single, exactly_numbered, placed_numbered, passes, goes_by, has_passed, has_counts, is_accepted}
+use Rattle.calls.specs.OrderLaws.{SaysZero}
+use Rattle.calls.proofs.CheckLaws.{valid_of, valid_sized, valid_holds, area_single, tree_single, sentence_single, given_rest, given_by}
+use Rattle.calls.specs.CheckLaws.{Fit}
 use Rattle.calls.proofs.CallsUnique.{altered_parses}
-use Rattle.calls.proofs.Verdicts.{Answers, Decided, by_zero, by_nine, decided_early, Alike, Answered, answered_exactly, answered_alike, answered_place, answered_fits, answered_zero, parsed_answered, accepted_size}
-use Rattle.calls.proofs.Demand2.{ParseStores, parse_stores, parse_answered}
+use Rattle.calls.proofs.Verdicts.{decided_early, answered_exactly, answered_alike, answered_place, answered_fits, answered_zero, parsed_answered, accepted_size}
+use Rattle.calls.specs.Verdicts.{Answers, Decided, by_zero, by_nine, Alike, Answered}
+use Rattle.calls.proofs.Demand2.{parse_stores, parse_answered}
+use Rattle.calls.specs.Demand2.{ParseStores}
+use Rattle.calls.specs.Demand3.{EditReached, Renewed}
 
 -- ---- what edit has found
-
--- edit has passed its checks up to reply 8: the grammar, the slots, the old tree and the new tokens that they found
-pub record EditReached (image tables tokens : List ℕ) (place removed room : ℕ) (tree : List ℕ) (r : Reply)
-    (tree' : List ℕ) : Type 0 where
-  pub grammar : Grammar
-  pub fit : Fit image grammar
-  pub right : Tables grammar tables
-  pub slots : ℕ
-  pub old : Valid grammar slots tree
-  pub enough : work_areas * length tree ≤ room
-  pub inserted : List Token
-  pub spelt : Sentence grammar.t tokens inserted
-  pub within : place + removed ≤ length (yield old.tree)
-  pub last : Outcome (renew_call grammar slots (edit_of place removed inserted) old.tree) tree r tree'
 
 pub edit_reached : {image tables tokens : List ℕ} {place removed room : ℕ} {tree : List ℕ} {r : Reply}
     {tree' : List ℕ} → Decided r
@@ -89,26 +81,6 @@ pub edit_accepted : {image tables tokens : List ℕ} {place removed room : ℕ} 
     → Outcome (edit_call image tables tokens place removed room tree) tree r tree' → number_of r ≡ 0
     → (c : Counts) × (r ≡ Accepted c)
 edit_accepted h e = let (c, q, _) = has_counts (has_passed e (edit_reached (by_zero e) h).last).2 in (c, q)
-
--- the area is a valid tree again, in as many slots; its tokens are the old ones with the run replaced; its counts add
--- up
-pub record Renewed (image tree : List ℕ) (place removed : ℕ) (tokens : List ℕ) (c : Counts)
-    (tree' : List ℕ) : Type 0 where
-  pub grammar : Grammar
-  pub fit : Fit image grammar
-  pub slots : ℕ
-  pub old : Valid grammar slots tree
-  pub new : Valid grammar slots tree'
-  pub inserted : List Token
-  pub spelt : Sentence grammar.t tokens inserted
-  pub within : place + removed ≤ length (yield old.tree)
-  pub yields : yield new.tree ≡ edited (edit_of place removed inserted) (yield old.tree)
-  pub slotted : Altered grammar slots (edit_of place removed inserted) old.tree new.tree c.kept c.made
-      c.given_up
-  -- "Total is the number of nodes in the stored tree"
-  pub total : c.total ≡ size new.tree
-  pub kept_and_made : c.kept + c.made ≡ c.total
-  pub kept_and_given_up : c.kept + c.given_up ≡ size old.tree
 
 module _ {G : Grammar} {S : ℕ} {e : Edit} {old : Forest} {c : Counts} {tree' : List ℕ}
     (x : Renewal G S e old c tree') where

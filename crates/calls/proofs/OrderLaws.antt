@@ -1,8 +1,7 @@
 -- Laws of every call: no second outcome; a refusal leaves every lent buffer; the bytes of the reply; what a call with
 -- some reply has passed.
-use Rattle.std.specs.Prelude.{ℕ, ◌≤◌, ◌≡◌, refl, ◌↔◌, List, [], length, take}
+use Rattle.std.specs.Prelude.{ℕ, ◌≤◌, ◌≡◌, refl, ◌↔◌, List, [], length}
 use Rattle.std.proofs.Common.{sym, ap, ◌∙◌, subst, arith}
-use Rattle.base.specs.Bytes.{le_bytes}
 use Rattle.base.specs.Blocks.{copied, zeros}
 use Rattle.grammar.specs.Single.{lowest_one}
 use Rattle.replies.specs.Reply.{word_size, number_of, reply_bytes}
@@ -12,23 +11,9 @@ use Rattle.replies.specs.declared.Reason.{Reason}
 use Rattle.replies.specs.declared.Reply.{Reply}
 use Rattle.replies.specs.declared.Reply.TheVariants.{Accepted, Refused}
 use Rattle.calls.specs.Order.{Check, counts, Call, try, accept, Tried, refused, passed, Accepting, accepting, Outcome, Ends, Called, Exactly, exactly, WithPlace, at, require, find, none}
+use Rattle.calls.specs.OrderLaws.{Single, Settled, One, SaysZero, HasNumber}
 
 -- ---- no second outcome
-
--- a check finds one thing or refuses with one reason, and not both
-pub record Single {A : Type 0} (c : Check A) : Type 0 where
-  pub finds : {x y : A} → c.Pass x → c.Pass y → x ≡ y
-  pub reason : {p q : Reason} → c.Fail p → c.Fail q → p ≡ q
-  pub apart : {x : A} {p : Reason} → c.Pass x → c.Fail p → ⊥
-
--- so does each check of a call, whatever passed before it; and one thing only is accepted
-abbrev pub Settled : {B : Type 0} → Call B → Type 0
-Settled (try {A = A} c next) = Single c × ((x : A) → c.Pass x → Settled (next x))
-Settled {B} (accept {A = A} h P) = (x y : A) (v w : B) → P x v → P y w → (x ≡ y) × (v ≡ w)
-
--- Q determines reply and buffers
-abbrev pub One : {B : Type 0} → (Reply → B → Type 0) → Type 0
-One {B} Q = (r s : Reply) (v w : B) → Q r v → Q s w → (r ≡ s) × (v ≡ w)
 
 tried_one : {A B : Type 0} {c : Check A} {Next : A → Reply → B → Type 0} {before v w : B} {r s : Reply} → Single c
     → ((x : A) → c.Pass x → One (Next x))
@@ -107,10 +92,6 @@ any_before (accept h P) before other r after o = (after, o, λ e. refl)
 
 -- ---- the reply's bytes
 
--- the number that the first four bytes of a slice say is 0
-abbrev pub SaysZero : List ℕ → Type 0
-SaysZero slice = take word_size slice ≡ le_bytes word_size 0
-
 module _ {B : Type 0} {call : Call B} {before after : B} {work work' slice slice' : List ℕ}
     (l : word_size ≤ length slice) (h : Called call before work slice after work' slice') where
   says_zero : SaysZero slice' ↔ (number_of h.reply ≡ 0)
@@ -131,10 +112,6 @@ pub passes : {A B : Type 0} {c : Check A} {Next : A → Reply → B → Type 0} 
     → Single c → c.Pass x → Tried c Next before r after → Next x r after
 passes s p (refused f) = absurd (s.apart p f)
 passes {Next = Next} {after = after} {r = r} s p (passed q h) = subst (λ z. Next z r after) (s.finds q p) h
-
--- every reason of the check has this number
-abbrev pub HasNumber : {A : Type 0} → Check A → ℕ → Type 0
-HasNumber c k = (p : Reason) → c.Fail p → number_of (Refused p) ≡ k
 
 -- a check whose reasons have another number than the reply has passed
 pub goes_by : {A B : Type 0} {c : Check A} {Next : A → Reply → B → Type 0} {before after : B} {r : Reply} {k : ℕ}

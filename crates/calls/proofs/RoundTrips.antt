@@ -19,10 +19,13 @@ use Rattle.calls.specs.Parse.{parse_call}
 use Rattle.calls.specs.Edit.{edit_call}
 use Rattle.calls.specs.ReadBack.{read_counts, read_back_with, read_back_call}
 use Rattle.calls.proofs.OrderLaws.{one_outcome}
-use Rattle.calls.proofs.CheckLaws.{Fit, valid_sized, valid_holds, given_passed}
+use Rattle.calls.proofs.CheckLaws.{valid_sized, valid_holds, given_passed}
+use Rattle.calls.specs.CheckLaws.{Fit}
 use Rattle.calls.proofs.CallsUnique.{read_back_settled}
 use Rattle.calls.proofs.Demand2.{parse_stores, stores_valid}
-use Rattle.calls.proofs.Demand3.{Renewed, edit_renews}
+use Rattle.calls.proofs.Demand3.{edit_renews}
+use Rattle.calls.specs.Demand3.{Renewed}
+use Rattle.calls.specs.RoundTrips.{replaced}
 
 -- read back of an area gives one reply and output
 pub read_back_one : {image tree output : List ℕ} (r s : Reply) (v w : List ℕ)
@@ -60,10 +63,6 @@ module _ {image tables tokens : List ℕ} {room long : ℕ} {tree tree' : List �
   parse_read_back_one r output' k = read_back_one r _ output' _ k parse_read_back
 
 -- ---- edit, then read back
-
--- bytes of tokens with the run of tokens replaced
-abbrev pub replaced : List ℕ → ℕ → ℕ → List ℕ → List ℕ
-replaced old place removed tokens = take (token_size * place) old ++ (tokens ++ drop (token_size * (place + removed)) old)
 
 module _ (w : List Token) (k : ℕ) (l : k ≤ length w) where
   parted : token_bytes w ≡ token_bytes (take k w) ++ token_bytes (drop k w)

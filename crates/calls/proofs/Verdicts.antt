@@ -6,32 +6,23 @@ use Rattle.grammar.specs.Prediction.{Prepared}
 use Rattle.grammar.specs.Forest.{Token}
 use Rattle.plain.specs.Plain.{Verdict, accepted, syntax, out_of_room, Parses}
 use Rattle.plain.specs.One.{runs_one}
-use Rattle.plain.proofs.Exactly.{Fitting, accepted_exactly}
-use Rattle.plain.proofs.Viable.{Longest, place_longest}
-use Rattle.replies.specs.Reply.{number_of, place_of, expected_of, counts_of}
+use Rattle.plain.proofs.Exactly.{accepted_exactly}
+use Rattle.plain.specs.Exactly.{Fitting}
+use Rattle.plain.proofs.Viable.{place_longest}
+use Rattle.plain.specs.Viable.{Longest}
+use Rattle.replies.specs.Reply.{number_of}
 use Rattle.replies.specs.declared.Counts.{Counts}
 use Rattle.replies.specs.declared.Reply.{Reply}
 use Rattle.replies.specs.declared.Reason.TheVariants as reasons
 use Rattle.replies.specs.declared.Reply.TheVariants.{Accepted, Refused}
 use Rattle.calls.specs.Order.{counts, Tried, refused, passed, Accepting, accepting}
 use Rattle.calls.specs.Checks.{wrong_syntax, no_room, parsed}
-
--- the reply that a verdict gives
-pub data Answers : Verdict → Reply → Type 0 where
-  yes : {n : ℕ} {c : Counts} → c.total ≡ n → Answers (accepted n) (Accepted c)
-  nine : {i e : ℕ} → Answers (syntax i e) (Refused (reasons.Syntax i e))
-  ten : Answers out_of_room (Refused reasons.NoRoom)
+use Rattle.calls.specs.Verdicts.{Answers, Decided, Alike, Answered, by_zero, by_nine, by_ten}
 
 answers_one : {u u' : Verdict} {r : Reply} → Answers u r → Answers u' r → u ≡ u'
 answers_one (Answers.yes e) (Answers.yes e') = ap accepted (sym e ∙ e')
 answers_one Answers.nine Answers.nine = refl
 answers_one Answers.ten Answers.ten = refl
-
--- the reply is one of those
-pub data Decided (r : Reply) : Type 0 where
-  by_zero : number_of r ≡ 0 → Decided r
-  by_nine : number_of r ≡ 9 → Decided r
-  by_ten : number_of r ≡ 10 → Decided r
 
 -- then no check before the plain parse refused
 pub decided_early : {r : Reply} → Decided r → (k : ℕ) → 1 ≤ k → k ≤ 8 → number_of r ≡ k → ⊥
@@ -39,23 +30,10 @@ decided_early (by_zero q) k l m e = omega (arith, q, e)
 decided_early (by_nine q) k l m e = omega (arith, q, e)
 decided_early (by_ten q) k l m e = omega (arith, q, e)
 
--- the same number, place, expected set and total
-pub record Alike (r r' : Reply) : Type 0 where
-  pub number : number_of r ≡ number_of r'
-  pub place : place_of r ≡ place_of r'
-  pub expected : expected_of r ≡ expected_of r'
-  pub total : (counts_of r).total ≡ (counts_of r').total
-
 answers_alike : {u : Verdict} {r r' : Reply} → Answers u r → Answers u r' → Alike r r'
 answers_alike (Answers.yes e) (Answers.yes e') = record { number = refl; place = refl; expected = refl; total = e ∙ sym e' }
 answers_alike Answers.nine Answers.nine = record { number = refl; place = refl; expected = refl; total = refl }
 answers_alike Answers.ten Answers.ten = record { number = refl; place = refl; expected = refl; total = refl }
-
--- the plain parse has a verdict, and this is its reply
-pub record Answered (G : Grammar) (S : ℕ) (w : List Token) (r : Reply) : Type 0 where
-  pub verdict : Verdict
-  pub parses : Parses G S w verdict
-  pub answers : Answers verdict r
 
 module _ {G : Grammar} {S : ℕ} {w : List Token} where
   -- the last checks of a call whose total is the number of nodes

@@ -3,7 +3,7 @@ use Rattle.std.specs.Prelude.{ℕ, ◌≡◌, List}
 use Rattle.grammar.specs.Grammar.{Grammar}
 use Rattle.tables.specs.Tables.{Tables}
 use Rattle.replies.specs.Reply.{no_counts}
-use Rattle.calls.specs.Order.{Call, accept, counts, ◌>>=◌, ◌>>◌}
+use Rattle.calls.specs.Order.{Call, accept, counts, ◌>>◌}
 use Rattle.calls.specs.Checks.{given, tables_sized}
 
 -- "prepare 1, 2, 3, 4", where `long` is the length of the tables; of the counts, "prepare none"

@@ -18,7 +18,8 @@ use Rattle.replies.specs.declared.Reply.TheVariants.{Refused}
 use Rattle.calls.specs.Order.{Outcome, refused, passed, exactly, at}
 use Rattle.calls.specs.Checks.{Sized, area}
 use Rattle.calls.specs.Edit.{edit_with, edit_call}
-use Rattle.calls.proofs.CheckLaws.{Fit, valid_of, valid_sized, valid_holds, given_passed}
+use Rattle.calls.proofs.CheckLaws.{valid_of, valid_sized, valid_holds, given_passed}
+use Rattle.calls.specs.CheckLaws.{Fit}
 use Rattle.kindlesap.specs.declared.checks.GrammarChecked.{GrammarChecked}
 use Rattle.kindlesap.specs.GrammarChecks.{Checks, checked_refused}
 

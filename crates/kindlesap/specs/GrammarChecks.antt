@@ -22,7 +22,8 @@ use Rattle.replies.specs.declared.Reason.TheVariants as reasons
 use Rattle.replies.specs.declared.Reply.TheVariants.{Refused}
 use Rattle.calls.specs.Order.{Call, Outcome}
 use Rattle.calls.specs.Checks.{given}
-use Rattle.calls.proofs.CheckLaws.{Fit, Unfit, bad_image, useless, conflict, given_refused}
+use Rattle.calls.proofs.CheckLaws.{given_refused}
+use Rattle.calls.specs.CheckLaws.{Fit, Unfit, bad_image, useless, conflict}
 use Rattle.kindlesap.specs.declared.checks.GrammarChecked.{GrammarChecked}
 
 -- what replies 2 and 3 say of the grammar in the rows; its words and cells where they pass

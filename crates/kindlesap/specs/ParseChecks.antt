@@ -29,7 +29,8 @@ use Rattle.replies.specs.declared.Reply.TheVariants.{Accepted, Refused}
 use Rattle.calls.specs.Order.{Outcome, refused, passed, accepting, exactly, at}
 use Rattle.calls.specs.Checks.{Sized, area, wrong_syntax, no_room}
 use Rattle.calls.specs.Parse.{up_from, Stored, parse_counts, store_call, parse_with, parse_call}
-use Rattle.calls.proofs.CheckLaws.{Fit, given_passed}
+use Rattle.calls.proofs.CheckLaws.{given_passed}
+use Rattle.calls.specs.CheckLaws.{Fit}
 use Rattle.kindlesap.specs.declared.checks.GrammarChecked.{GrammarChecked}
 use Rattle.kindlesap.specs.GrammarChecks.{Checks, checked_refused}
 

@@ -8,7 +8,8 @@ use Rattle.replies.specs.declared.Reason.TheVariants.{WrongTables}
 use Rattle.replies.specs.declared.Reply.TheVariants.{Accepted, Refused}
 use Rattle.calls.specs.Order.{Outcome, refused, passed, accepting, exactly}
 use Rattle.calls.specs.Prepare.{prepare_with, prepare_call}
-use Rattle.calls.proofs.CheckLaws.{Fit, given_passed}
+use Rattle.calls.proofs.CheckLaws.{given_passed}
+use Rattle.calls.specs.CheckLaws.{Fit}
 use Rattle.kindlesap.specs.declared.checks.GrammarChecked.{GrammarChecked}
 use Rattle.kindlesap.specs.GrammarChecks.{Checks, checked_refused}
 

@@ -19,7 +19,8 @@ use Rattle.replies.specs.declared.Reply.TheVariants.{Accepted, Refused}
 use Rattle.calls.specs.Order.{Outcome, refused, passed, accepting, exactly}
 use Rattle.calls.specs.Checks.{Sized, area, needed}
 use Rattle.calls.specs.ReadBack.{read_counts, read_back_with, read_back_call}
-use Rattle.calls.proofs.CheckLaws.{Fit, valid_of, valid_sized, valid_holds, given_passed}
+use Rattle.calls.proofs.CheckLaws.{valid_of, valid_sized, valid_holds, given_passed}
+use Rattle.calls.specs.CheckLaws.{Fit}
 use Rattle.kindlesap.specs.declared.checks.GrammarChecked.{GrammarChecked}
 use Rattle.kindlesap.specs.GrammarChecks.{Checks, checked_refused}
 

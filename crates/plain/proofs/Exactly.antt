@@ -10,6 +10,7 @@ use Rattle.grammar.specs.Forest.{Token, Forest, size, yield, Derives, Tree}
 use Rattle.grammar.specs.Trees.{node_over}
 use Rattle.plain.specs.Plain.{Verdict, accepted, out_of_room, Runs, accepts, matches, expands, crowded, stuck, Parses}
 use Rattle.plain.specs.Traced.{Traced, Same, through, full, traced, same}
+use Rattle.plain.specs.Exactly.{Fitting}
 
 -- what an accepting parse has built from the symbols that were left
 record Built (G : Grammar) (S : ℕ) (xs : List ℕ) (w : List Token) (c n : ℕ) : Type 0 where
@@ -39,12 +40,6 @@ module _ {G : Grammar} {S : ℕ} where
       record { forest = q.0; derives = q.1; yields = q.2 ∙ b.yields; count = omega (arith, b.count, length-append γ xs, q.3); fits = b.fits }
   sound n (crowded x r m) l e = never (cc)
   sound n (stuck m d) l e = never (cc)
-
--- a derivation tree of the sentence, of n nodes, that fits S slots
-pub record Fitting (G : Grammar) (S : ℕ) (w : List Token) (n : ℕ) : Type 0 where
-  pub tree : Tree G G.start w
-  pub nodes : size tree.tree ≡ n
-  pub fits : n ≤ S
 
 module _ {G : Grammar} where
   whole : {w : List Token} (T : Tree G G.start w) → Traced G 0 T.tree

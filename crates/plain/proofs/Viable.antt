@@ -11,26 +11,13 @@ use Rattle.grammar.specs.Rules.{rule_one, rule_allowed}
 use Rattle.grammar.specs.Derivation.{at, Steps, stop, then}
 use Rattle.grammar.specs.Prediction.{Predicts, Prepared}
 use Rattle.grammar.specs.Single.{ll1_one}
-use Rattle.grammar.specs.Forest.{Token, kinds, Forest, yield, Derives, Tree}
+use Rattle.grammar.specs.Forest.{Token, kinds, Forest, yield, Derives}
 use Rattle.grammar.specs.Trees.{join, yield_join, derives_join, node_over, trans, steps_in, forest_of}
 use Rattle.sets.specs.Decidable.{useful_productive}
 use Rattle.plain.specs.Plain.{ahead, Expects, prediction, itself, end, Verdict, syntax, Runs, accepts, matches, expands, crowded, stuck, Parses}
 use Rattle.plain.specs.One.{no_rule}
 use Rattle.plain.specs.Traced.{Traced, front_append, traced}
-
--- the tokens begin some sentence of the language
-pub record Viable (G : Grammar) (u : List Token) : Type 0 where
-  pub rest : List Token
-  pub tree : Tree G G.start (u ++ rest)
-
--- the longest beginning of w that is viable has i tokens
-pub record Longest (G : Grammar) (w : List Token) (i : ℕ) : Type 0 where
-  pub beginning : List Token
-  pub rest : List Token
-  pub is : w ≡ beginning ++ rest
-  pub tokens : length beginning ≡ i
-  pub viable : Viable G beginning
-  pub longest : (u v : List Token) → w ≡ u ++ v → Viable G u → length u ≤ i
+use Rattle.plain.specs.Viable.{Longest}
 
 -- ---- no longer beginning is viable
 

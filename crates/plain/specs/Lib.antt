@@ -1,5 +1,8 @@
 -- Meaning: the plain parse.
 pub mod Plain
+-- Meaning: trees that fit, viable beginnings.
+pub mod Exactly
+pub mod Viable
 -- Laws: one verdict; the parse over a forest; forests but for slots.
 pub mod One
 pub mod Traced

@@ -4,7 +4,6 @@ use Rattle.std.proofs.Common.{sym, ap, ◌∙◌, inl, inr, append_assoc, append
 use Rattle.std.proofs.Math.Logic.{by_cases}
 use Rattle.std.proofs.Math.Decide.{ℕ_discrete}
 use Rattle.base.specs.Bytes.{byte_at, get32, Bytes, le_bytes}
-use Rattle.base.specs.Choose.{never}
 use Rattle.grammar.specs.Each.{Each, each_join}
 use Rattle.trees.specs.Area.{tag_space, Linked}
 use Rattle.grammar.specs.Grammar.{TerminalOf}

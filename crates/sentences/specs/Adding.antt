@@ -1,5 +1,5 @@
 -- Tokens written one behind the other.
-use Rattle.std.specs.Prelude.{ℕ, ◌+◌, ◌-◌, ◌*◌, ◌/◌, ◌%◌, ◌≤◌, min, ◌≡◌, refl, List, [], ◌∷◌, ◌++◌, length, set, take, drop}
+use Rattle.std.specs.Prelude.{ℕ, ◌+◌, ◌-◌, ◌*◌, ◌/◌, ◌%◌, ◌≤◌, min, ◌≡◌, List, [], ◌∷◌, ◌++◌, length, set, take, drop}
 use Rattle.std.proofs.Common.{sym, ap, ◌∙◌, append_assoc, append-nil, take-append-drop, length-append, length-take-le, take_at, drop-drop, arith}
 use Rattle.std.proofs.Math.Seq.{take-length, drop-append-add, paste, paste-zero, paste-suc}
 use Rattle.base.specs.Bytes.{put16, le_bytes}

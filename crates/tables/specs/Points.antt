@@ -25,7 +25,7 @@ use Rattle.sets.specs.Words.{follows}
 use Rattle.sets.specs.Closures.{Vanish, v_nil, vanish_join, Begin, b_here, b_rule, b_skip, begin_left, begin_right, begin_terminal, begin_first, first_begin, follow_after, after_follow}
 use Rattle.sets.specs.Known.{Known, known_null, known_first, known_after}
 use Rattle.predictions.specs.Hits.{hasb, hasb_has, has_hasb, hasb_not, Hit, hit_exactly}
-use Rattle.predictions.specs.Paths.{Chosen, by_begin, Path, p_end, p_down, path_begin, begin_path, unique, rule_body, below}
+use Rattle.predictions.specs.Paths.{Chosen, by_begin, Path, p_end, p_down, path_begin, begin_path, unique, rule_body}
 use Rattle.predictions.specs.Stems.{single, path_stem, reach}
 use Rattle.predictions.specs.Listing.{Cell, empty, full, Listed}
 use Rattle.predictions.specs.Verdict.{predicts_hit}

@@ -1,5 +1,5 @@
 -- The slots of an area, one written and the others left: sixteen bytes at once, or one of its links.
-use Rattle.std.specs.Prelude.{ℕ, ◌+◌, ◌-◌, ◌*◌, ◌/◌, ◌%◌, ◌≤◌, ◌<◌, ◌≡◌, refl, ◌⊎◌, length, set, drop}
+use Rattle.std.specs.Prelude.{ℕ, ◌+◌, ◌*◌, ◌/◌, ◌%◌, ◌≤◌, ◌<◌, ◌≡◌, refl, ◌⊎◌, length, set, drop}
 use Rattle.std.proofs.Math.Path.{sym, ap}
 use Rattle.std.proofs.Common.{◌∙◌, inl, inr, length-take, length-drop, ext_get_or, get_or-take, get_or-drop}
 use Rattle.std.proofs.Math.Logic.{by_cases}

@@ -1,5 +1,5 @@
 -- After the walk: whether the header says what was found, whether the other slots are zero, and what the reader then answers.
-use Rattle.std.specs.Prelude.{ℕ, zero, ◌+◌, ◌-◌, ◌*◌, ◌≤◌, ◌<◌, Bool, true, false, ◌≡◌, refl, List, take, drop}
+use Rattle.std.specs.Prelude.{ℕ, ◌+◌, ◌-◌, ◌*◌, ◌≤◌, ◌<◌, Bool, true, false, ◌≡◌, refl, List, take, drop}
 use Rattle.std.proofs.Common.{sym, ap, ◌∙◌, get_or-take, get_or-drop, take-add, drop_at, length-take-le, ⊎_elim, arith, below_more}
 use Rattle.std.proofs.Math.ListN.{length, length-take, length-drop}
 use Rattle.std.proofs.Math.Logic.{by_cases}

@@ -1,5 +1,5 @@
 -- How the walk goes on: the nodes written so far and the frames that wait make up the whole walk, and a turn visits the first of the frames.
-use Rattle.std.specs.Prelude.{ℕ, ◌+◌, ◌≤◌, ◌<◌, ◌≡◌, refl, List, [], ◌∷◌, ◌++◌, length}
+use Rattle.std.specs.Prelude.{ℕ, ◌≤◌, ◌<◌, ◌≡◌, refl, List, [], ◌∷◌, ◌++◌, length}
 use Rattle.std.proofs.Common.{sym, ap, subst, ◌∙◌, append_assoc, append-nil, arith}
 use Rattle.base.specs.Choose.{never}
 use Rattle.base.specs.Bytes.{byte_at}

@@ -1,5 +1,5 @@
 -- Whether the node in a slot can stand where a symbol is expected: what its production and tag must be, and which children it then has.
-use Rattle.std.specs.Prelude.{ℕ, zero, suc, ◌+◌, ◌-◌, ◌*◌, ◌/◌, ◌%◌, ◌≤◌, ◌<◌, Bool, true, false, ◌≡◌, refl, ◌⊎◌, List, ◌∷◌, length, get_or, set}
+use Rattle.std.specs.Prelude.{ℕ, zero, suc, ◌+◌, ◌*◌, ◌/◌, ◌%◌, ◌≤◌, ◌<◌, Bool, true, false, ◌≡◌, refl, ◌⊎◌, List, ◌∷◌, length, get_or, set}
 use Rattle.std.proofs.Common.{sym, ap, ◌∙◌, ⊎_elim, arith}
 use Rattle.base.specs.Choose.{never}
 use Rattle.base.specs.Tells.{Tells, tells_yes, tells_no}

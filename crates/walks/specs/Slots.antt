@@ -1,5 +1,5 @@
 -- The fields of a slot, read off its bytes: bytes that are a used slot's have these fields, and bytes with the mark and the two zeros are a used slot's.
-use Rattle.std.specs.Prelude.{ℕ, ◌+◌, ◌-◌, ◌*◌, ◌≤◌, ◌<◌, ◌≡◌, refl, List, length}
+use Rattle.std.specs.Prelude.{ℕ, ◌+◌, ◌*◌, ◌≤◌, ◌<◌, ◌≡◌, refl, List, length}
 use Rattle.std.proofs.Common.{sym, ap, ◌∙◌, arith, below_more}
 use Rattle.base.specs.Bytes.{byte_at, get16, le_bytes, get32}
 use Rattle.base.specs.Blocks.{zeros}

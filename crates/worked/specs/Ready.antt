@@ -17,7 +17,7 @@ use Rattle.predictions.specs.Idle.{BusyTo, none, busy_none, busy_more, idle_usef
 use Rattle.predictions.specs.Listing.{Cell, empty, full, Low, Listed}
 use Rattle.predictions.specs.Verdict.{low_ll1}
 use Rattle.tables.specs.Cells.{lead, step_of}
-use Rattle.calls.proofs.CheckLaws.{Fit}
+use Rattle.calls.specs.CheckLaws.{Fit}
 use Rattle.worked.specs.Words.{head, rows, words, is_reference, known}
 
 -- ---- a test of every number below n, computed once

@@ -1,4 +1,3 @@
-use Rattle.std.proofs.Common.{◌-◌}
 use Rattle.base.specs.Blocks.{zeros_more, comparing}
 use borrow.Author.Rules.{rules}
 use Rattle.base.proofs.all_zero.Goals as goal

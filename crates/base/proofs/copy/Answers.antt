@@ -1,5 +1,4 @@
 use Rattle.base.specs.Blocks.{copying}
-use Rattle.std.proofs.Common.{◌-◌}
 use lib.Seq.{paste-zero}
 use borrow.Author.Rules.{rules}
 use Rattle.base.proofs.copy.Goals as goal

@@ -1,4 +1,3 @@
-use Rattle.std.proofs.Common.{◌-◌}
 use Rattle.base.specs.Blocks.{clear_more, comparing}
 use borrow.Author.Rules.{rules}
 use Rattle.base.proofs.four_runs.Goals as goal

@@ -1,4 +1,3 @@
-use Rattle.std.proofs.Common.{◌-◌}
 use Rattle.base.specs.Blocks.{alike_more, comparing}
 use borrow.Author.Rules.{rules}
 use Rattle.base.proofs.same.Goals as goal

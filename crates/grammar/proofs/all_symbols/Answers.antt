@@ -1,4 +1,3 @@
-use Rattle.std.proofs.Common.{◌-◌}
 use Rattle.grammar.specs.Reading.{symbols}
 use borrow.Author.Rules.{rules}
 use Rattle.grammar.proofs.all_symbols.Goals as goal

@@ -1,6 +1,5 @@
 use Rattle.grammar.specs.Reading.{headed_long, reading_start, reading_fits, reading_more}
 use Rattle.grammar.specs.Outcome.{ending}
-use Rattle.std.proofs.Common.{◌-◌}
 use borrow.Author.Rules.{rules}
 use Rattle.grammar.proofs.read_productions.Goals as goal
 

@@ -1,4 +1,4 @@
-use Rattle.std.proofs.Common.{◌-◌, ◌<◌}
+use Rattle.std.proofs.Common.{◌<◌}
 use Rattle.keeping.specs.Filling.{giving_none, giving_holds, giving_more, giving_all}
 use Rattle.keeping.specs.Seen.{seen_here, match_fits, slot_seen, got_then, seen_given}
 use borrow.Author.Rules.{rules}

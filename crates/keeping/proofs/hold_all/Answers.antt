@@ -1,5 +1,4 @@
 use Rattle.keeping.specs.Seen.{seen_here, seen_more, match_fits, slot_then, old_now, fit_now, marks_room, marks_then, keeps_then}
-use Rattle.std.proofs.Common.{◌-◌}
 use Rattle.keeping.specs.Matched.{fit_few}
 use Rattle.keeping.specs.Marking.{kept_few, keeps_few, marks_none, keeps_none, marks_more, keeps_more, marks_all, keeps_all}
 use borrow.Author.Rules.{rules}

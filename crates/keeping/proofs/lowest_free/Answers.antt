@@ -1,4 +1,3 @@
-use Rattle.std.proofs.Common.{◌-◌}
 use Rattle.std.proofs.Common.{◌∙◌}
 use Rattle.keeping.specs.Filling.{passed_none, passed_more, lowest_here, lowest_beyond}
 use borrow.Author.Rules.{rules}

@@ -3,7 +3,6 @@ use Rattle.matching.specs.Carrying.{row_start, row_next, row_end}
 use Rattle.matching.specs.Noted.{viewed_all, matches_on}
 use Rattle.matching.specs.Carrying.{row_start, row_end}
 use Rattle.matching.specs.Noted.{viewed_all}
-use Rattle.std.proofs.Common.{◌-◌}
 use borrow.Author.Rules.{rules}
 use Rattle.matching.proofs.carry.Goals as goal
 

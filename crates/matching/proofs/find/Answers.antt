@@ -1,5 +1,4 @@
 use Rattle.matching.specs.Finding.{sought_symbol, sought_void, found_none, found_some}
-use Rattle.std.proofs.Common.{◌-◌}
 use borrow.Author.Rules.{rules}
 use Rattle.matching.proofs.find.Goals as goal
 

@@ -3,7 +3,6 @@ use Rattle.matching.specs.Handing.{few_handed}
 use Rattle.matching.specs.Matching.{turned_low}
 use Rattle.matching.specs.Through.{blank_few, through_start, through_few, through_turn, through_end}
 use Rattle.matching.specs.Noted.{viewed_all, matches_on, started_in, rising_in, leaved_in, handed_in, turned_out, matches_out}
-use Rattle.std.proofs.Common.{◌-◌}
 use borrow.Author.Rules.{rules}
 use Rattle.matching.proofs.go_through.Goals as goal
 

@@ -1,7 +1,6 @@
 use Rattle.notes.specs.Views.{length_matches}
 use Rattle.matching.specs.Handing.{few_handed, rise_low, rise_high, handing_start, handing_new, handing_old, handing_next}
 use Rattle.matching.specs.Noted.{viewed_all, matches_on, handed_out, end_out}
-use Rattle.std.proofs.Common.{◌-◌}
 use borrow.Author.Rules.{rules}
 use Rattle.matching.proofs.hand_on.Goals as goal
 

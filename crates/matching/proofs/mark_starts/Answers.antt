@@ -1,7 +1,6 @@
 use Rattle.notes.specs.Views.{length_starts}
 use Rattle.matching.specs.Finding.{started_none, started_inner, started_leaf, started_end}
 use Rattle.matching.specs.Noted.{viewed_all, starts_on, production_out}
-use Rattle.std.proofs.Common.{◌-◌}
 use borrow.Author.Rules.{rules}
 use Rattle.matching.proofs.mark_starts.Goals as goal
 

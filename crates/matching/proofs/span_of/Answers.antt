@@ -1,5 +1,4 @@
 use Rattle.matching.specs.Measure.{span_leaf, hop_start, hop_next, hop_end}
-use Rattle.std.proofs.Common.{◌-◌}
 use Rattle.std.proofs.Common.{sym, ◌∙◌}
 use borrow.Author.Rules.{rules}
 use Rattle.matching.proofs.span_of.Goals as goal

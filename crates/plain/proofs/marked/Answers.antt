@@ -1,5 +1,4 @@
 use Rattle.plain.specs.Machine.{marked_not, marked_in}
-use Rattle.std.proofs.Common.{◌-◌}
 use borrow.Author.Rules.{rules}
 use Rattle.plain.proofs.marked.Goals as goal
 

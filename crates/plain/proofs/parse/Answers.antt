@@ -1,7 +1,6 @@
 use Rattle.plain.specs.Machine.{start_small, at_start, at_end, at_rest}
 use Rattle.plain.specs.Text.{text_begun}
 use Rattle.plain.specs.Outcome.{ran_done, ran_wrong, turns, turned_at, turned_over, ground_same, at_same, ran_same}
-use Rattle.std.proofs.Common.{◌-◌}
 use Rattle.std.proofs.Common.{refl, sym, ◌∙◌}
 use borrow.Author.Rules.{rules}
 use Rattle.plain.proofs.parse.Goals as goal

@@ -1,5 +1,4 @@
 use Rattle.plain.specs.Machine.{lit_none, lit_more, lit_all}
-use Rattle.std.proofs.Common.{◌-◌}
 use borrow.Author.Rules.{rules}
 use Rattle.plain.proofs.predicted.Goals as goal
 

@@ -1,6 +1,4 @@
 use Rattle.base.specs.Filled.{filling, filled_more}
-use Rattle.grammar.specs.Rows.{symbol_at}
-use Rattle.std.proofs.Common.{◌-◌}
 use borrow.Author.Rules.{rules}
 use Rattle.plain.proofs.push.Goals as goal
 

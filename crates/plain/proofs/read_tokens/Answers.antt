@@ -1,6 +1,5 @@
 use Rattle.plain.specs.Outcome.{told_zero, told_high, told_cut, told_good}
 use Rattle.plain.specs.Tokens.{kinds_none, kinds_more}
-use Rattle.std.proofs.Common.{◌-◌}
 use borrow.Author.Rules.{rules}
 use Rattle.std.proofs.Common.{arith}
 use Rattle.plain.proofs.read_tokens.Goals as goal

@@ -1,5 +1,4 @@
 use Rattle.predictions.specs.Listing.{marking, marked_more}
-use Rattle.std.proofs.Common.{◌-◌}
 use borrow.Author.Rules.{rules}
 use Rattle.predictions.proofs.list_row.Goals as goal
 

@@ -1,5 +1,4 @@
 use Rattle.predictions.specs.Listing.{listed_none, listed_more, listed_all}
-use Rattle.std.proofs.Common.{◌-◌}
 use borrow.Author.Rules.{rules}
 use Rattle.predictions.proofs.predict.Goals as goal
 

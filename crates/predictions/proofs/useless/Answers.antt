@@ -1,5 +1,4 @@
 use Rattle.predictions.specs.Idle.{idling}
-use Rattle.std.proofs.Common.{◌-◌}
 use borrow.Author.Rules.{rules}
 use Rattle.predictions.proofs.useless.Goals as goal
 

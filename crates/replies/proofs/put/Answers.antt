@@ -1,5 +1,4 @@
 use Rattle.replies.specs.Reply.{le_start, le_next, put_none, put_turn, put_end}
-use Rattle.std.proofs.Common.{◌-◌}
 use borrow.Author.Rules.{rules}
 use Rattle.replies.proofs.put.Goals as goal
 

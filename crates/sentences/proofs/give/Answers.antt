@@ -1,6 +1,5 @@
 use Rattle.sentences.specs.Leaves.{giving_none, gave_full, gave_all}
 use Rattle.sentences.specs.Behind.{fronted_none, behind_inner, behind_leaf}
-use Rattle.std.proofs.Common.{◌-◌}
 use borrow.Author.Rules.{rules}
 use Rattle.sentences.proofs.give.Goals as goal
 

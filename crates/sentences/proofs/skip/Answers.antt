@@ -1,5 +1,4 @@
 use Rattle.sentences.specs.Leaves.{skipped_none, skipped_inner, skipped_leaf, skipped_full, skipped_all}
-use Rattle.std.proofs.Common.{◌-◌}
 use borrow.Author.Rules.{rules}
 use Rattle.sentences.proofs.skip.Goals as goal
 

@@ -1,5 +1,4 @@
 use Rattle.sets.specs.Sweeps.{tokens_none, tokens_more, begin_all}
-use Rattle.std.proofs.Common.{◌-◌}
 use borrow.Author.Rules.{rules}
 use Rattle.sets.proofs.begin.Goals as goal
 

@@ -1,5 +1,4 @@
 use Rattle.base.specs.Blocks.{zeroing}
-use Rattle.std.proofs.Common.{◌-◌}
 use borrow.Author.Rules.{rules}
 use Rattle.sets.proofs.clear.Goals as goal
 

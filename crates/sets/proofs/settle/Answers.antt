@@ -1,5 +1,4 @@
 use Rattle.sets.specs.Rounds.{settled_start, settled_turn, settled_less, settled_done}
-use Rattle.std.proofs.Common.{◌-◌}
 use borrow.Author.Rules.{rules}
 use Rattle.std.proofs.Common.{arith}
 use Rattle.sets.proofs.settle.Goals as goal

@@ -1,5 +1,4 @@
 use Rattle.sets.specs.Sweeps.{sweeping, grew_join, sweep_more}
-use Rattle.std.proofs.Common.{◌-◌}
 use borrow.Author.Rules.{rules}
 use Rattle.sets.proofs.sweep.Goals as goal
 

@@ -1,6 +1,5 @@
 use Rattle.tables.specs.Writing.{mask_cell}
 use Rattle.tables.specs.Grid.{grid_none, grid_cell, grid_row, grid_all}
-use Rattle.std.proofs.Common.{◌-◌}
 use borrow.Author.Rules.{rules}
 use Rattle.std.proofs.Common.{arith}
 use Rattle.tables.proofs.fill_masks.Goals as goal

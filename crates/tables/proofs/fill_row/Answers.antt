@@ -1,6 +1,5 @@
 use Rattle.tables.specs.Writing.{entry_cell}
 use Rattle.tables.specs.Grid.{grid_none, grid_cell, grid_row, grid_all}
-use Rattle.std.proofs.Common.{◌-◌}
 use borrow.Author.Rules.{rules}
 use Rattle.std.proofs.Common.{arith}
 use Rattle.tables.proofs.fill_row.Goals as goal

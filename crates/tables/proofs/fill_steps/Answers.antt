@@ -1,6 +1,4 @@
 use Rattle.tables.specs.Grid.{grid_none, grid_cell, grid_row, grid_all}
-use Rattle.tables.specs.Cells.{step_of}
-use Rattle.std.proofs.Common.{◌-◌}
 use borrow.Author.Rules.{rules}
 use Rattle.std.proofs.Common.{arith}
 use Rattle.tables.proofs.fill_steps.Goals as goal

@@ -1,5 +1,4 @@
 use Rattle.tables.specs.Checking.{blank_zeros, quiet_zeros, held_none, blank_more, quiet_more, held_more, held_not, held_all}
-use Rattle.std.proofs.Common.{◌-◌}
 use borrow.Author.Rules.{rules}
 use Rattle.tables.proofs.holds_breaks.Goals as goal
 

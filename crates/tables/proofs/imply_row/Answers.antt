@@ -1,6 +1,5 @@
 use Rattle.tables.specs.Live.{dotted_none, dotted_more, dotted_grid, live_below}
 use Rattle.tables.specs.Writing.{implied_none}
-use Rattle.std.proofs.Common.{◌-◌}
 use Rattle.std.proofs.Common.{sym}
 use borrow.Author.Rules.{rules}
 use Rattle.tables.proofs.imply_row.Goals as goal

@@ -1,6 +1,5 @@
 use Rattle.tables.specs.Writing.{lead_found, lead_on, lead_none}
 use Rattle.tables.specs.Writing.{lead_start}
-use Rattle.std.proofs.Common.{◌-◌}
 use borrow.Author.Rules.{rules}
 use Rattle.tables.proofs.lead.Goals as goal
 

@@ -1,5 +1,4 @@
 use Rattle.tables.specs.Live.{live_none, live_cell, live_row, live_all}
-use Rattle.std.proofs.Common.{◌-◌}
 use borrow.Author.Rules.{rules}
 use Rattle.tables.proofs.list_live.Goals as goal
 

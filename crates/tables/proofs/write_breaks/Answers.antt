@@ -1,5 +1,4 @@
 use Rattle.tables.specs.Writing.{broken_none, broken_more, broken_all}
-use Rattle.std.proofs.Common.{◌-◌}
 use borrow.Author.Rules.{rules}
 use Rattle.tables.proofs.write_breaks.Goals as goal
 

@@ -1,6 +1,4 @@
-use Rattle.std.proofs.Common.{◌-◌}
 use Rattle.std.proofs.Common.{refl, ◌∙◌}
-use Rattle.std.proofs.Common.{◌-◌}
 use Rattle.std.proofs.Common.{◌∙◌}
 use Rattle.trees.specs.Adopting.{adopted_turn, adopted_end, reach_room, reach_turn}
 use borrow.Author.Rules.{rules}

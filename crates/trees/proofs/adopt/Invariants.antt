@@ -1,7 +1,7 @@
-use Rattle.std.proofs.Common.{◌+◌, ◌*◌, ◌-◌, ◌<◌, ◌≤◌}
+use Rattle.std.proofs.Common.{◌+◌, ◌*◌, ◌<◌, ◌≤◌}
 use Rattle.trees.specs.Area.{slot_size}
 use Rattle.std.proofs.Common.{◌≡◌}
-use Rattle.std.proofs.Common.{◌-◌, ◌<◌}
+use Rattle.std.proofs.Common.{◌<◌}
 use Rattle.std.proofs.Common.{◌≡◌}
 use Rattle.std.proofs.Common.{length}
 use Rattle.trees.specs.Adopting.{adopted, Reach}

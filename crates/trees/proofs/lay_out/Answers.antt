@@ -1,4 +1,3 @@
-use Rattle.std.proofs.Common.{◌-◌}
 use Rattle.trees.specs.Laying.{laid_none, laid_ready, laid_turn, laid_all, counted_none, counted_turn, spread_room}
 use borrow.Author.Rules.{rules}
 use Rattle.trees.proofs.lay_out.Goals as goal

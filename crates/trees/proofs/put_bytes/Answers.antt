@@ -1,4 +1,3 @@
-use Rattle.std.proofs.Common.{◌-◌}
 use Rattle.base.specs.Filled.{filled_none, filled_more, filled_all}
 use borrow.Author.Rules.{rules}
 use Rattle.trees.proofs.put_bytes.Goals as goal

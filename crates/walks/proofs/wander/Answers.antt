@@ -1,5 +1,4 @@
 use Rattle.std.proofs.Common.{refl}
-use Rattle.std.proofs.Common.{◌-◌}
 use Rattle.walks.specs.Walking.{Taken, taken_leaf, taken_body, walking_start, walking_leaves, walking_fits, walking_room, walking_next, walking_up, walking_end, walking_down, walking_push, wandered_unfit, wandered_behind}
 use borrow.Author.Rules.{rules}
 use Rattle.std.proofs.Common.{arith}

@@ -1,4 +1,3 @@
-use Rattle.std.proofs.Common.{◌-◌}
 use Rattle.walks.specs.Closing.{clear_none, clear_more, clear_not, clear_all, clear_run}
 use borrow.Author.Rules.{rules}
 use Rattle.walks.proofs.closing.all_clear.Goals as goal

@@ -1,4 +1,3 @@
-use Rattle.std.proofs.Common.{◌-◌}
 use Rattle.walks.specs.Closing.{visited_none, visited_more, visited_all, visited_not}
 use borrow.Author.Rules.{rules}
 use Rattle.walks.proofs.closing.all_visited.Goals as goal

@@ -1,4 +1,3 @@
-use Rattle.std.proofs.Common.{◌-◌}
 use Rattle.std.proofs.Common.{length-set}
 use Rattle.walks.specs.Words.{worded_none, worded_more, worded_full, worded_all}
 use borrow.Author.Rules.{rules}
