@@ -5,8 +5,8 @@ use Rattle.std.proofs.Math.Logic.{by_cases}
 use Rattle.std.proofs.Math.Pow.{pow-lt}
 use Rattle.std.proofs.Math.Nat.{pow-succ', div-div-eq-div-mul}
 use Rattle.std.proofs.Math.Decide.{ℕ_discrete}
-use Rattle.std.specs.Int.Bits.{bit_or, bit_xor, or_step, xor_add_and, xor_self, or_add_and}
-use Rattle.std.proofs.lemmas.Nat.{and_le_l, and_le_r}
+use Rattle.std.specs.Int.Bits.{bit_or, or_step, or_add_and}
+use Rattle.std.proofs.lemmas.Nat.{and_le_r}
 
 -- bit i of m, 0 or 1
 unfoldable pub bit : ℕ → ℕ → ℕ
@@ -54,30 +54,6 @@ bit_zero (suc i) = bit_zero i
 
 pub none_has : (i : ℕ) → Has 0 i → ⊥
 none_has i h = omega (arith, h.is, bit_zero i)
-
--- r is 0 exactly if x and y are
-pub record Dark (x y r : ℕ) : Type 0 where
-  pub both : r ≡ 0 → (x ≡ 0) × (y ≡ 0)
-  pub none : x ≡ 0 → y ≡ 0 → r ≡ 0
-
-pub or_dark : (x y : ℕ) → Dark x y (bit_or x y)
-or_dark x y =
-    record {
-      both = λ e. (omega (arith, or_grows x y), omega (arith, or_add_and x y, and_le_l x y));
-      none = λ d e. omega (arith, or_add_and x y);
-    }
-
--- r is 0 exactly if x is y
-pub record Level (x y r : ℕ) : Type 0 where
-  pub same : r ≡ 0 → x ≡ y
-  pub none : x ≡ y → r ≡ 0
-
-pub xor_level : (x y : ℕ) → Level x y (bit_xor x y)
-xor_level x y =
-    record {
-      same = λ e. omega (arith, xor_add_and x y, and_le_l x y, and_le_r x y);
-      none = λ e. rw e (xor_self y);
-    }
 
 -- one number alone
 

@@ -1,7 +1,10 @@
 -- Numbers in a list of bytes, little-endian. A read beyond the end gives 0 and a write there changes nothing, so neither asks for anything.
-use Rattle.std.specs.Prelude.{ℕ, zero, suc, ◌+◌, ◌*◌, ◌/◌, ◌%◌, ◌<◌, ◌≤◌, ◌≡◌, refl, List, [], ◌∷◌, length, get_or, set}
-use Rattle.std.proofs.Common.{sym, ap, ◌∙◌, length-set, get_or-set_same, get_or-set_other, arith}
+use Rattle.std.specs.Prelude.{ℕ, zero, suc, ◌+◌, ◌*◌, ◌-◌, ◌/◌, ◌%◌, ◌^◌, ◌<◌, ◌≤◌, ◌≡◌, refl, List, [], ◌∷◌, length, get_or, set, take}
+use Rattle.std.proofs.Common.{sym, ap, ◌∙◌, length-set, get_or-set_same, get_or-set_other, pow-suc, arith}
 use Rattle.std.proofs.Math.ListN.{get_or-eq_default}
+use Rattle.std.specs.Int as int
+use Rattle.std.specs.Int.{bytes_low_first}
+use Rattle.std.proofs.Math.Nat.{pow-le-pow_right, div-div-eq-div-mul}
 use Rattle.std.proofs.Math.Seq.{set_out}
 
 -- the byte at a place
@@ -15,6 +18,11 @@ get16 xs at = get_or xs at 0 + 256 * get_or xs (at + 1) 0
 -- the four-byte number at a place
 abbrev pub get32 : List ℕ → ℕ → ℕ
 get32 xs at = get_or xs at 0 + 256 * (get_or xs (at + 1) 0 + 256 * (get_or xs (at + 2) 0 + 256 * get_or xs (at + 3) 0))
+
+-- the number of the n bytes from a place on
+abbrev pub number : ℕ → List ℕ → ℕ → ℕ
+number zero xs at = 0
+number (suc n) xs at = byte_at xs at + 256 * number n xs (at + 1)
 
 -- every element is a byte
 abbrev pub Bytes : List ℕ → Type 0
@@ -33,6 +41,25 @@ pub length_le : (k v : ℕ) → length (le_bytes k v) ≡ k
 unfolding le_bytes
 length_le zero v = refl
 length_le (suc k) v = ap suc (length_le k (v / 256))
+
+byte_low : (i v : ℕ) → int.byte_at i v ≡ v / 256 ^ i % 256
+byte_low zero v = let q : v / 256 ^ 0 ≡ v = omega arith in rw q
+byte_low (suc i) v = refl
+
+low_bytes : (i k n v : ℕ) → n ≤ k → take n (bytes_low_first i k v) ≡ le_bytes n (v / 256 ^ i)
+unfolding le_bytes
+low_bytes i k zero v l = refl
+low_bytes i zero (suc n) v l = absurd (omega arith)
+low_bytes i (suc k) (suc n) v l =
+    let p : 256 ^ suc i ≡ 256 ^ i * 256 = omega (arith, pow-suc 256 i) in
+    let q : v / 256 ^ suc i ≡ v / 256 ^ i / 256 = rw p (sym (div-div-eq-div-mul v (256 ^ i) 256)) in
+    let b = byte_low i v in
+    let h = low_bytes (suc i) k n v (omega arith) in
+    cc
+
+-- as `to_le_bytes` has them
+pub le_low : (k n v : ℕ) → n ≤ k → take n (bytes_low_first 0 k v) ≡ le_bytes n v
+le_low k n v l = let q : v / 256 ^ 0 ≡ v = omega arith in rw q at (low_bytes 0 k n v l)
 
 -- beyond the end
 
@@ -70,28 +97,27 @@ pub byte_put16 : (xs : List ℕ) (at v j : ℕ) → (j ≡ at → ⊥) → (j �
 byte_put16 xs at v j a b =
     get_or-set_other (set xs at (v % 256)) (at + 1) j (v / 256) 0 b ∙ get_or-set_other xs at j (v % 256) 0 a
 
-pub ruleset outs = (byte_out, set_beyond, get16_out, put16_out)
+-- a number byte by byte, from its last one down
+
+pub number_more : (n i m : ℕ) (xs : List ℕ) → 0 < i → i ≤ n → m ≡ number (n - i) xs i → 256 * m + byte_at xs (i - 1) ≡ number (n - (i - 1)) xs (i - 1)
+number_more n i m xs l h e =
+    let q : n - (i - 1) ≡ suc (n - i) = omega arith in
+    let p : i - 1 + 1 ≡ i = omega arith in
+    rw (q, p, e) (omega arith)
+
+pub number_small : (n : ℕ) (xs : List ℕ) (at : ℕ) → Bytes xs → number n xs at < 256 ^ n
+number_small zero xs at h = omega arith
+number_small (suc n) xs at h = omega (arith, number_small n xs (at + 1) h, h at, pow-suc 256 n)
+
+-- one of at most seven bytes has room for one more
+pub number_room : (n k m : ℕ) (xs : List ℕ) → n ≤ 8 → 0 < k → Bytes xs → m ≡ number (n - k) xs k → 256 * m + 255 < 2 ^ 64
+number_room n k m xs l o h e =
+    omega (arith, number_small (n - k) xs k h, pow-le-pow_right {n = 256} (omega arith) {i = n - k} {j = 7} (omega arith))
 
 -- a four-byte number is two of two
-
-pub get32_out : (xs : List ℕ) (at : ℕ) → length xs ≤ at → 0 ≡ get32 xs at
-get32_out xs at l =
-    let a = byte_out xs at l in
-    let b = byte_out xs (at + 1) (omega arith) in
-    let c = byte_out xs (at + 2) (omega arith) in
-    let d = byte_out xs (at + 3) (omega arith) in
-    omega arith
-
-pub get32_short : (xs : List ℕ) (at v : ℕ) → length xs ≤ at + 1 → v ≡ get16 xs at → v ≡ get32 xs at
-get32_short xs at v l e =
-    let c = byte_out xs (at + 2) (omega arith) in
-    let d = byte_out xs (at + 3) (omega arith) in
-    omega arith
 
 pub get32_two : (xs : List ℕ) (at v w : ℕ) → v ≡ get16 xs at → w ≡ get16 xs (at + 2) → v + 65536 * w ≡ get32 xs at
 get32_two xs at v w e f =
     let q : at + 2 + 1 ≡ at + 3 = omega arith in
     let g : w ≡ get_or xs (at + 2) 0 + 256 * get_or xs (at + 3) 0 = rw q at f in
     omega arith
-
-pub ruleset wholes = (get32_out, get32_short, get32_two)

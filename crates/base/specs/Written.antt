@@ -1,7 +1,11 @@
 -- What a write of some bytes leaves: the others stay, and with them the numbers that stand there. Numbers of eight bytes.
-use Rattle.std.specs.Prelude.{ℕ, ◌+◌, ◌*◌, ◌/◌, ◌%◌, ◌≤◌, ◌<◌, ◌≡◌, ◌⊎◌, List, length, set}
-use Rattle.std.proofs.Common.{sym, ◌∙◌, inl, inr, length-set, get_or-set_other, arith}
-use Rattle.base.specs.Bytes.{byte_at, get16, get32, put16, length_put16, get_put16, byte_put16, get32_two}
+use Rattle.std.specs.Prelude.{ℕ, ◌+◌, ◌-◌, ◌*◌, ◌/◌, ◌%◌, ◌^◌, ◌≤◌, ◌<◌, min, ◌≡◌, refl, ◌⊎◌, List, [], ◌∷◌, length, set}
+use Rattle.std.proofs.Common.{sym, ◌∙◌, inl, inr, add-one, length-set, get_or-set_other, arith}
+use Rattle.std.proofs.Math.Logic.{by_cases}
+use Rattle.std.proofs.Math.Decide.{dec_lt}
+use Rattle.std.proofs.lemmas.List.Edits.{sets-eq}
+use Rattle.base.specs.Bytes.{byte_at, get16, get32, put16, number, le_bytes, length_le, length_put16, byte_put16, set_beyond, put16_out}
+use Rattle.base.specs.Blocks.{copied, copied_long, copied_at, copied_other, copy_none}
 
 -- ---- a write of the bytes a..b
 
@@ -77,27 +81,43 @@ pub record Eight (w : List ℕ) (at v : ℕ) (w' : List ℕ) : Type 0 where
   pub only : Only at (at + 8) w w'
   pub is : get64 w' at ≡ v
 
--- as four two-byte numbers
-pub eight_put : (w w1 w2 w3 w4 : List ℕ) (at v : ℕ) → at + 8 ≤ length w → v < 18446744073709551616 → w1 ≡ put16 w at (v % 65536) → w2 ≡ put16 w1 (at + 2) (v / 65536 % 65536)
-    → w3 ≡ put16 w2 (at + 4) (v / 65536 / 65536 % 65536) → w4 ≡ put16 w3 (at + 6) (v / 65536 / 65536 / 65536) → Eight w at v w4
+-- of eight bytes that are those from a place on
+pub get64_number : (w part : List ℕ) (at r : ℕ) → r ≡ number 8 part 0 → ((i : ℕ) → i < 8 → byte_at part i ≡ byte_at w (at + i)) → r ≡ get64 w at
 unfolding get64
-eight_put w w1 w2 w3 w4 at v l o e1 e2 e3 e4 =
-    let h1 : Only at (at + 2) w w1 = rw e1 (only_word w at (v % 65536)) in
-    let h2 : Only (at + 2) (at + 2 + 2) w1 w2 = rw e2 (only_word w1 (at + 2) (v / 65536 % 65536)) in
-    let h3 : Only (at + 4) (at + 4 + 2) w2 w3 = rw e3 (only_word w2 (at + 4) (v / 65536 / 65536 % 65536)) in
-    let h4 : Only (at + 6) (at + 6 + 2) w3 w4 = rw e4 (only_word w3 (at + 6) (v / 65536 / 65536 / 65536)) in
-    let i1 : get16 w1 at ≡ v % 65536 = rw e1 (get_put16 w at (v % 65536) (omega arith)) in
-    let i2 : get16 w2 (at + 2) ≡ v / 65536 % 65536 = rw e2 (get_put16 w1 (at + 2) (v / 65536 % 65536) (omega (arith, h1.long))) in
-    let i3 : get16 w3 (at + 4) ≡ v / 65536 / 65536 % 65536 = rw e3 (get_put16 w2 (at + 4) (v / 65536 / 65536 % 65536) (omega (arith, h1.long, h2.long))) in
-    let i4 : get16 w4 (at + 6) ≡ v / 65536 / 65536 / 65536 = rw e4 (get_put16 w3 (at + 6) (v / 65536 / 65536 / 65536) (omega (arith, h1.long, h2.long, h3.long))) in
-    let g1 = word_kept h4 at (inl (omega arith)) ∙ word_kept h3 at (inl (omega arith)) ∙ word_kept h2 at (inl (omega arith)) ∙ i1 in
-    let g2 = word_kept h4 (at + 2) (inl (omega arith)) ∙ word_kept h3 (at + 2) (inl (omega arith)) ∙ i2 in
-    let g3 = word_kept h4 (at + 4) (inl (omega arith)) ∙ i3 in
-    let g4 : get16 w4 (at + 4 + 2) ≡ v / 65536 / 65536 / 65536 = let q : at + 4 + 2 ≡ at + 6 = omega arith in rw q i4 in
-    let low = get32_two w4 at (v % 65536) (v / 65536 % 65536) (sym g1) (sym g2) in
-    let high = get32_two w4 (at + 4) (v / 65536 / 65536 % 65536) (v / 65536 / 65536 / 65536) (sym g3) (sym g4) in
-    record {
-      only = only_then (only_then (only_then (only_wider at (at + 8) (omega arith) (omega arith) h1) (only_wider at (at + 8) (omega arith) (omega arith) h2))
-          (only_wider at (at + 8) (omega arith) (omega arith) h3)) (only_wider at (at + 8) (omega arith) (omega arith) h4);
-      is = omega (arith, low, high, o);
-    }
+get64_number w part at r e h =
+    let q0 : at + 0 ≡ at = omega arith in
+    let q5 : at + 5 ≡ at + 4 + 1 = omega arith in
+    let q6 : at + 6 ≡ at + 4 + 2 = omega arith in
+    let q7 : at + 7 ≡ at + 4 + 3 = omega arith in
+    let b0 = rw q0 at (h 0 (omega arith)) in
+    let b5 = rw q5 at (h 5 (omega arith)) in
+    let b6 = rw q6 at (h 6 (omega arith)) in
+    let b7 = rw q7 at (h 7 (omega arith)) in
+    omega (arith, h 1 (omega arith), h 2 (omega arith), h 3 (omega arith), h 4 (omega arith))
+
+number_le : (v : ℕ) → v < 2 ^ 64 → v ≡ number 8 (le_bytes 8 v) 0
+unfolding le_bytes
+number_le v l = omega arith
+
+pub eight_put : (w w' : List ℕ) (at v : ℕ) → at + 8 ≤ length w → v < 2 ^ 64 → w' ≡ copied w at (le_bytes 8 v) → Eight w at v w'
+eight_put w w' at v l m e =
+    let n : length (le_bytes 8 v) ≡ 8 = length_le 8 v in
+    let r : at + length (le_bytes 8 v) ≤ length w = omega arith in
+    rw e
+    (record {
+      only = record { long = copied_long w (le_bytes 8 v) at r; others = λ j o. copied_other w (le_bytes 8 v) at r j (rw n o) };
+      is = sym (get64_number _ _ at v (number_le v m) (λ i b. sym (copied_at w (le_bytes 8 v) at r i (omega arith))));
+    })
+
+-- two bytes as they are written, as far as they fit
+pub put16_copied : (w : List ℕ) (at v : ℕ) → v < 65536 → copied w at (le_bytes 2 v) ≡ put16 w at v
+unfolding le_bytes copied
+put16_copied w at v l =
+    let k : v / 256 % 256 ≡ v / 256 = omega arith in
+    by_cases (dec_lt (at + 1) (length w))
+    (λ m. let q : min 2 (length w - at) ≡ 2 = omega arith in
+    rw (q, k) (sym (sets-eq (v % 256 ∷ v / 256 ∷ []) w at (omega arith)) ∙ rw add-one refl))
+    (λ m. by_cases (dec_lt at (length w))
+    (λ n. let q : min 2 (length w - at) ≡ 1 = omega arith in
+    rw q (sym (sets-eq (v % 256 ∷ []) w at (omega arith)) ∙ set_beyond (set w at (v % 256)) (at + 1) (v / 256) (simp length-set (omega arith))))
+    (λ n. sym (copy_none w at (le_bytes 2 v) (omega arith)) ∙ put16_out w at v (omega arith)))

@@ -1,16 +1,11 @@
-use Rattle.base.specs.Blocks.{copying}
-use lib.Seq.{paste-zero}
+use Rattle.std.proofs.lemmas.Slice.{overwrites}
+use Rattle.base.specs.Blocks.{copied, copy_none}
 use borrow.Author.Rules.{rules}
 use Rattle.base.proofs.copy.Goals as goal
 
-pub returns-then-dst-at : goal.returns-then-dst-at
-returns-then-dst-at c = search (copying, rules)
+pub returns-then-at-dst : goal.returns-then-at-dst
+unfolding copied
+returns-then-at-dst c = search (overwrites, rules)
 
-pub loop-i-init : goal.loop-i-init
-loop-i-init c = search (paste-zero, rules)
-
-pub loop-i-preserved : goal.loop-i-preserved
-loop-i-preserved c = search (copying, rules)
-
-pub returns : goal.returns
-returns c = search (copying, rules)
+pub returns-else-at-dst : goal.returns-else-at-dst
+returns-else-at-dst c = search (copy_none, rules)

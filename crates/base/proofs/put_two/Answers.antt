@@ -1,6 +1,6 @@
-use Rattle.std.proofs.Common.{length-set}
-use Rattle.std.proofs.Common.{arith}
+use Rattle.std.proofs.Common.{rules, ◌∙◌}
+use Rattle.base.specs.Written.{put16_copied}
 use Rattle.base.proofs.put_two.Goals as goal
 
-pub bounds-b-at-2 : goal.bounds-b-at-2
-bounds-b-at-2 c = simp length-set (omega arith)
+pub returns : goal.returns
+returns c = c.put.ensures ∙ put16_copied _ _ _ (search rules)

@@ -1,12 +1,7 @@
-use Rattle.base.specs.Blocks.{zeroing}
+use Rattle.base.specs.Blocks.{zeros}
 use borrow.Author.Rules.{rules}
 use Rattle.base.proofs.zero.Goals as goal
 
-pub loop-i-init : goal.loop-i-init
-loop-i-init c = search (zeroing, rules)
-
-pub loop-i-preserved : goal.loop-i-preserved
-loop-i-preserved c = search (zeroing, rules)
-
 pub returns : goal.returns
-returns c = search (zeroing, rules)
+unfolding zeros
+returns c = search rules

@@ -1,6 +1,0 @@
-use Rattle.base.specs.Bytes.{outs}
-use borrow.Author.Rules.{rules}
-use Rattle.base.proofs.byte_at.Goals as goal
-
-pub returns : goal.returns
-returns c = search (outs, rules)
