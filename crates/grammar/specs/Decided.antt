@@ -1,5 +1,5 @@
 -- Every image has an outcome: it is well formed, or it has a first bad offset. With `Images` and `Outcome`: exactly one.
-use Rattle.std.specs.Prelude.{◌≡◌, refl, true, false, Result, Ok, Err, Option, Some, None, ◌⊎◌, ℕ, zero, suc, ◌+◌, ◌-◌, ◌≤◌, ◌<◌, List, [], ◌∷◌, length, take, drop, get_or}
+use Rattle.std.specs.Prelude.{◌≡◌, refl, true, false, Result, Option, Some, None, ◌⊎◌, ℕ, zero, suc, ◌+◌, ◌-◌, ◌≤◌, ◌<◌, List, [], ◌∷◌, length, take, drop, get_or}
 use Rattle.std.proofs.Common.{inl, inr, arith}
 use Rattle.std.proofs.Math.Logic.{by_cases}
 use Rattle.std.proofs.Math.Decide.{ℕ_discrete, dec_lt, dec_le}
@@ -8,7 +8,7 @@ use Rattle.grammar.specs.Limits.{max_terminals, max_nonterminals, max_production
 use Rattle.grammar.specs.Each.{Each, each_head, each_tail}
 use Rattle.grammar.specs.Grammar.{Grammar, AllowedHead}
 use Rattle.grammar.specs.Image.{Image, Bad}
-use Rattle.grammar.specs.Reading.{head_short, head_mark_lem, head_mark2, head_wrong, headed, headed_long, HeadRead, head_read, head_none, Symbols, Starts, starts_short, starts_mark, starts_mark2, starts_low, starts_high, starts_long, starts_cut, starts_symbols, starts_good, Reading, reading_start, reading_full, reading_bad, reading_more}
+use Rattle.grammar.specs.Reading.{head_short, head_mark_lem, head_mark2, head_wrong, headed, HeadRead, head_read, head_none, Symbols, Starts, starts_short, starts_mark, starts_mark2, starts_low, starts_high, starts_long, starts_cut, starts_symbols, starts_good, Reading, reading_start, reading_full, reading_bad, reading_more}
 use Rattle.grammar.specs.Outcome.{Reads, reads_good, reads_bad, reads_headless, reads_end}
 use Rattle.grammar.specs.declared.Head.{Head}
 use Rattle.grammar.specs.declared.BadRecord.{BadRecord}

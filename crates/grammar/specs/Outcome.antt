@@ -5,7 +5,7 @@ use Rattle.std.specs.Result.{MatchResult, is_err}
 use Rattle.base.specs.Choose.{never}
 use Rattle.base.specs.Blocks.{zeros}
 use Rattle.grammar.specs.Grammar.{Grammar}
-use Rattle.grammar.specs.Image.{image_of, Image, HeadFirst, Bad, bad_head}
+use Rattle.grammar.specs.Image.{image_of, Image, Bad, bad_head}
 use Rattle.grammar.specs.Images.{image_one, good_not_bad, bad_one}
 use Rattle.grammar.specs.Rows.{rows_size, rows_of, head_of}
 use Rattle.grammar.specs.Reading.{Reading, read_so_far, HeadRead, head_none}

@@ -2,7 +2,7 @@
 use Rattle.std.specs.Prelude.{◌≡◌, refl, Bool, true, false, ◌⊎◌, Option, Some, None, ℕ, ◌+◌, ◌-◌, ◌*◌, ◌≤◌, ◌<◌, List, [], ◌∷◌, ◌++◌, length, take, drop, get_or}
 use Rattle.std.specs.Bool.{MatchBool}
 use Rattle.std.specs.List.{AllWithin, HoldsAt, slice_range}
-use Rattle.std.proofs.Common.{ap, ap₂, inl, inr, sym, ◌∙◌, append_assoc, append-nil, length-append, length-drop, take-append-drop, drop-cons, take-suc, take_all, length-take-le, add-one, arith}
+use Rattle.std.proofs.Common.{ap, ap₂, inl, inr, sym, ◌∙◌, append_assoc, append-nil, length-append, take-append-drop, drop-cons, length-take-le, arith}
 use Rattle.std.proofs.Math.Seq.{take-append_seam, drop-append_seam}
 use Rattle.base.specs.Tells.{Tells, tells_yes, tells_no}
 use Rattle.base.specs.Blocks.{zeros, copied, part_tail}

@@ -1,7 +1,7 @@
 use Rattle.std.proofs.Common.{◌≡◌, ◌∙◌, sym, None, arith}
 use Rattle.std.proofs.lemmas.Result.{err_from_is_err_and}
 use Rattle.grammar.specs.Rows.{zeros_filled}
-use Rattle.grammar.specs.Reading.{HeadRead, headed_of, counted_of}
+use Rattle.grammar.specs.Reading.{headed_of, counted_of}
 use Rattle.grammar.specs.Outcome.{reads_headless, reads_cleared}
 use Rattle.grammar.proofs.read_grammar.Goals as goal
 

@@ -2,9 +2,8 @@ use Rattle.std.proofs.Common.{◌≡◌, sym, None}
 use Rattle.std.proofs.lemmas.Bool.{eqb-false}
 use Rattle.std.proofs.lemmas.Result.{err_from_is_err_and}
 use borrow.Author.Rules.{rules}
-use Rattle.grammar.specs.Reading.{Starts, reading_start, reading_fits, reading_more, reading_full, reading_bad}
+use Rattle.grammar.specs.Reading.{reading_start, reading_more, reading_full, reading_bad}
 use Rattle.grammar.specs.Outcome.{reads_end}
-use Rattle.grammar.specs.declared.BadRecord.{BadRecord}
 use Rattle.grammar.proofs.read_productions.Goals as goal
 
 pub loop-rest-init : goal.loop-rest-init
