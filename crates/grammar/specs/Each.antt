@@ -35,3 +35,8 @@ pub each_at : {P : ℕ → Type 0} (xs : List ℕ) (i : ℕ) → Each P xs → i
 each_at [] i e l = absurd (omega arith)
 each_at (x ∷ xs) zero (Each.cons p e) l = p
 each_at (x ∷ xs) (suc i) (Each.cons p e) l = each_at xs i e (omega arith)
+
+-- and from each place
+pub each_from : {P : ℕ → Type 0} (xs : List ℕ) → ((i : ℕ) → i < length xs → P (get_or xs i 0)) → Each P xs
+each_from [] h = Each.nil
+each_from (x ∷ xs) h = Each.cons (h 0 (omega arith)) (each_from xs (λ i l. h (suc i) (omega arith)))

@@ -1,5 +1,5 @@
 -- The reference grammar. Document 01, "Reference book and marked examples".
-use Rattle.std.specs.Prelude.{◌≡◌, refl, ℕ, List, [], ◌∷◌}
+use Rattle.std.specs.Prelude.{◌≡◌, refl, Result, Ok, ℕ, List, [], ◌∷◌}
 use Rattle.std.proofs.Common.{arith}
 use Rattle.base.specs.Choose.{choose}
 use Rattle.grammar.specs.Grammar.{Grammar, WellFormed}
@@ -7,7 +7,8 @@ use Rattle.grammar.specs.Formed.{and, within, every, allowed, formed_by}
 use Rattle.grammar.specs.Image.{Image}
 use Rattle.grammar.specs.Outcome.{Reads, reads_good, reads_one}
 use Rattle.grammar.specs.Rows.{rows_of, head_of}
-use Rattle.grammar.specs.declared.GrammarRead.{GrammarRead}
+use Rattle.grammar.specs.declared.Head.{Head}
+use Rattle.grammar.specs.declared.BadRecord.{BadRecord}
 
 -- "Terminals: 1 allow, 2 host, 3 comma, 4 except, 5 semicolon; nonterminals 6 Book, 7 Rule, 8 List, 9 Rest, 10 Bar; start 6"
 unfoldable pub reference : Grammar
@@ -44,5 +45,5 @@ unfolding reference reference_image
 reference_image_lem = record { formed = reference_formed; is = refl }
 
 -- so that is what the reader gives
-pub reference_read : (r : GrammarRead) (w : List ℕ) → Reads reference_image r w → (r ≡ GrammarRead.Good (head_of reference)) × (w ≡ rows_of reference.productions)
+pub reference_read : (r : Result Head BadRecord) (w : List ℕ) → Reads reference_image r w → (r ≡ Ok (head_of reference)) × (w ≡ rows_of reference.productions)
 reference_read r w h = reads_one h (reads_good reference reference_image_lem)

@@ -5,7 +5,7 @@ use Rattle.std.proofs.Math.Path.{ap, sym}
 use Rattle.std.proofs.Common.{◌∙◌, drop_of_length-le, take_at, drop_at, get_or-take, get_or-drop, drop-drop}
 use Prim.Native.Nat.{ℕ, zero, suc, ◌+◌, ◌-◌, ◌*◌, ◌/◌, ◌%◌, ◌≤◌, ◌<◌}
 use mathlib.Core.List.{List, [], ◌∷◌, ◌++◌, append_assoc, append-nil}
-use Rattle.std.proofs.Math.ListN.{length, get_or, length-append, length-take, get_or-eq_default}
+use Rattle.std.proofs.Math.ListN.{length, replicate, get_or, length-append, length-take, get_or-eq_default}
 use Rattle.std.proofs.Math.Seq.{append_snoc}
 use native.Mathlib.Omega.{arith}
 use Rattle.base.specs.Blocks.{zeros, length_zeros, zeros_append, copied, copied_zeros}
@@ -28,6 +28,11 @@ symbol_space = 1 + max_terminals + max_nonterminals
 -- one more than the longest body
 abbrev pub body_space : ℕ
 body_space = 1 + max_body
+
+-- what `fill` leaves of an array whose length is known
+pub zeros_filled : (w : List ℕ) (m n : ℕ) → w ≡ replicate m 0 → m ≡ n → w ≡ zeros n
+unfolding zeros
+zeros_filled w m n e l = e ∙ ap (λ (k : ℕ). replicate k 0) l
 
 -- ---- the rows of productions
 

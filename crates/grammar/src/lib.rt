@@ -1,14 +1,14 @@
 // The reader of grammar images, the rows that it leaves, and the reference grammar.
 #![tactic(auto)]
 
-ghost use Rattle.std.specs.Prelude.{◌≡◌, ◌+◌, ◌<◌, ◌≤◌, length};
+ghost use Rattle.std.specs.Prelude.{◌≡◌, ◌+◌, ◌<◌, ◌≤◌, length, IfSome, MatchResult};
 ghost use Rattle.base.specs.Tells.{Tells};
 ghost use Rattle.base.specs.Blocks.{zeros};
 ghost use Rattle.grammar.specs.Limits.{max_terminals, max_nonterminals};
 ghost use Rattle.grammar.specs.Grammar.{AllowedHead};
-ghost use Rattle.grammar.specs.Image.{HeadFirst};
+ghost use Rattle.grammar.specs.Image.{Bad};
 ghost use Rattle.grammar.specs.Rows.{rows_size, symbol_space, body_space, rows_of, head_of, left_at, length_at, symbol_at};
-ghost use Rattle.grammar.specs.Reading.{Headed, Symbols, Starts};
+ghost use Rattle.grammar.specs.Reading.{Headed, HeadRead, Symbols, Starts};
 ghost use Rattle.grammar.specs.Outcome.{Reads};
 ghost use Rattle.grammar.specs.Reference.{reference};
 
@@ -44,7 +44,7 @@ pub const SYMBOL_SPACE: usize = 1 + MAX_TERMINALS + MAX_NONTERMINALS;
 pub const BODY_SPACE: usize = 1 + MAX_BODY;
 
 // What a good image's head says, and how many productions follow it.
-#[derive(Clone, Copy)]
+#[derive(Clone, Copy, Debug, PartialEq, Eq)]
 pub struct Head {
     pub t: usize,
     pub n: usize,
@@ -52,157 +52,101 @@ pub struct Head {
     pub count: usize,
 }
 
-// An image is good, or its first bad record stands at an offset.
-#[derive(Clone, Copy)]
-pub enum GrammarRead {
-    Good(Head),
-    Bad(usize),
+// An image's first bad record stands at an offset.
+#[derive(Clone, Copy, Debug, PartialEq, Eq)]
+pub struct BadRecord {
+    pub offset: usize,
 }
 
 fn head_allowed(t: usize, n: usize, s: usize) -> bool
     ensures { Tells (AllowedHead t n s) result }
 {
-    if t == 0 {
-        return false;
-    }
-    if MAX_TERMINALS < t {
-        return false;
-    }
-    if n == 0 {
-        return false;
-    }
-    if MAX_NONTERMINALS < n {
-        return false;
-    }
-    if s <= t {
-        return false;
-    }
-    if t + n < s {
-        return false;
-    }
-    true
+    1 <= t && t <= MAX_TERMINALS && 1 <= n && n <= MAX_NONTERMINALS && t < s && s <= t + n
 }
 
-// Whether the image begins with a head.
-fn head_first(image: &[u8]) -> bool
-    ensures { Tells (HeadFirst image.now) result }
+// The head that the image begins with, and no production yet.
+fn read_head(image: &[u8]) -> Option<Head>
+    ensures { HeadRead image.now result }
 {
-    if image.len() < HEAD_SIZE {
-        return false;
+    let [RECORD_MARK, HEAD_MARK, t, n, s, ..] = image else {
+        return None;
+    };
+    let t = usize::from(*t);
+    let n = usize::from(*n);
+    let start = usize::from(*s);
+    if !head_allowed(t, n, start) {
+        return None;
     }
-    if image[0] != RECORD_MARK {
-        return false;
-    }
-    if image[1] != HEAD_MARK {
-        return false;
-    }
-    let t = base::byte_at(image, 2);
-    let n = base::byte_at(image, 3);
-    let s = base::byte_at(image, 4);
-    head_allowed(t, n, s)
+    Some(Head {
+        t,
+        n,
+        start,
+        count: 0,
+    })
 }
 
 // Whether every byte is a symbol, 1..last.
 fn all_symbols(b: &[u8], last: usize) -> bool
     ensures { Tells (Symbols last b.now) result }
 {
-    let mut i = 0;
-    while i < b.len() {
-        let x = base::wide(b[i]);
-        if x == 0 {
-            return false;
-        }
-        if last < x {
-            return false;
-        }
-        i += 1;
-    }
-    true
+    b.iter().all(|x| 1 <= *x && usize::from(*x) <= last)
 }
 
-// The size of the production record that stands first, or 0 where none does.
-fn production_size(rest: &[u8], t: usize, n: usize) -> usize
+// The size of the production record that stands first.
+fn production_size(rest: &[u8], t: usize, n: usize) -> Option<usize>
     requires { (t ≤ max_terminals) × (n ≤ max_nonterminals) }
-    ensures { Starts t n rest.now result × (result ≤ length rest.now) }
+    ensures { Starts t n rest.now result × IfSome result (λ size. size ≤ length rest.now) }
 {
-    if rest.len() < PREFIX_SIZE {
-        return 0;
+    let [RECORD_MARK, PRODUCTION_MARK, left, length, behind @ ..] = rest else {
+        return None;
+    };
+    let left = usize::from(*left);
+    let length = usize::from(*length);
+    if left <= t || t + n < left || MAX_BODY < length {
+        return None;
     }
-    if rest[0] != RECORD_MARK {
-        return 0;
+    let body = behind.get(..length)?;
+    if !all_symbols(body, t + n) {
+        return None;
     }
-    if rest[1] != PRODUCTION_MARK {
-        return 0;
-    }
-    let left = base::byte_at(rest, 2);
-    if left <= t {
-        return 0;
-    }
-    if t + n < left {
-        return 0;
-    }
-    let body = base::byte_at(rest, 3);
-    if MAX_BODY < body {
-        return 0;
-    }
-    if rest.len() - PREFIX_SIZE < body {
-        return 0;
-    }
-    if all_symbols(&rest[PREFIX_SIZE..PREFIX_SIZE + body], t + n) {
-        return PREFIX_SIZE + body;
-    }
-    0
+    Some(PREFIX_SIZE + length)
 }
 
 // The productions behind the head, one row each. After each record the rest of the image is read by the same rule.
 fn read_productions(
     image: &[u8],
-    t: usize,
-    n: usize,
-    s: usize,
+    mut head: Head,
     rows: &mut [u8; ROWS_SIZE],
-) -> GrammarRead
-    requires { Headed image.now t n s × (rows.old ≡ zeros rows_size) }
-    ensures { Reads image.now result rows.new }
+) -> Result<Head, BadRecord>
+    requires { Headed image.now head.t head.n head.start × (head.count ≡ 0) × (rows.old ≡ zeros rows_size) }
+    ensures { MatchResult result (λ h. Reads image.now result rows.new) (λ e. Bad image.now e.offset) }
 {
     let mut rest = &image[HEAD_SIZE..];
-    let mut count: usize = 0;
     let mut offset: usize = HEAD_SIZE;
-    while rest.len() != 0 {
-        if count == MAX_PRODUCTIONS {
-            base::zero(rows);
-            return GrammarRead::Bad(offset);
+    while !rest.is_empty() {
+        if head.count == MAX_PRODUCTIONS {
+            return Err(BadRecord { offset });
         }
-        let size = production_size(rest, t, n);
-        if size < PREFIX_SIZE {
-            base::zero(rows);
-            return GrammarRead::Bad(offset);
-        }
-        base::copy(rows, count * ROW_SIZE, &rest[2..size]);
+        let size = production_size(rest, head.t, head.n).ok_or(BadRecord { offset })?;
+        base::copy(rows, head.count * ROW_SIZE, &rest[2..size]);
         rest = &rest[size..];
-        count += 1;
+        head.count += 1;
         offset += size;
     }
-    GrammarRead::Good(Head {
-        t,
-        n,
-        start: s,
-        count,
-    })
+    Ok(head)
 }
 
 // Reads an image: the grammar's head, and its productions in the rows; or the offset of the first bad record, and rows of zeros.
-pub fn read_grammar(image: &[u8], rows: &mut [u8; ROWS_SIZE]) -> GrammarRead
+pub fn read_grammar(image: &[u8], rows: &mut [u8; ROWS_SIZE]) -> Result<Head, BadRecord>
     ensures { Reads image.now result rows.new }
 {
-    base::zero(rows);
-    if head_first(image) {
-        let t = base::byte_at(image, 2);
-        let n = base::byte_at(image, 3);
-        let s = base::byte_at(image, 4);
-        return read_productions(image, t, n, s, rows);
+    rows.fill(0);
+    let head = read_head(image).ok_or(BadRecord { offset: 0 })?;
+    let outcome = read_productions(image, head, rows);
+    if outcome.is_err() {
+        rows.fill(0);
     }
-    GrammarRead::Bad(0)
+    outcome
 }
 
 // The left side of the production in row p, counted from 0.
@@ -250,8 +194,8 @@ pub const REFERENCE: [u8; 49] = [
 ];
 
 // The reference grammar, by the same reader as any lent image.
-pub fn read_reference(rows: &mut [u8; ROWS_SIZE]) -> GrammarRead
-    ensures { (result ≡ GrammarRead.Good (head_of reference)) × (rows.new ≡ rows_of reference.productions) }
+pub fn read_reference(rows: &mut [u8; ROWS_SIZE]) -> Result<Head, BadRecord>
+    ensures { (result ≡ Ok (head_of reference)) × (rows.new ≡ rows_of reference.productions) }
 {
     read_grammar(&REFERENCE, rows)
 }

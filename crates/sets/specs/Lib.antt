@@ -7,5 +7,6 @@ pub mod Still
 pub mod Complete
 pub mod Known
 pub mod Sweeps
+pub mod Bounds
 pub mod Rounds
 pub mod Decidable

@@ -20,11 +20,11 @@ use Rattle.grammar.specs.RowRules.{body_at, rule_at, rule_row}
 use Rattle.grammar.specs.declared.Head.{Head}
 use Rattle.sets.specs.Closures.{b_here, a_start}
 use Rattle.sets.specs.Words.{word_bits, follows, marks, sets_size, raised, produced_at, turned, swept, tokens, begun}
-use Rattle.sets.specs.Growth.{total, total_bound, Within, within_refl, within_trans, within_raised}
+use Rattle.sets.specs.Growth.{total, Within, within_refl, within_trans, within_raised, still_both}
 use Rattle.sets.specs.Facts.{Sound, is_first, is_follow, is_made, is_reached, begins, sound_raised, sound_produced}
 use Rattle.sets.specs.Still.{Closed, within_swept, closed_swept, turned_low}
+use Rattle.sets.specs.Bounds.{Bounded, bounded_swept, bounded_total}
 use Rattle.sets.specs.Known.{Known}
-use Rattle.sets.specs.Sweeps.{Grew}
 
 -- ---- a sweep is sound
 
@@ -43,38 +43,50 @@ module _ (rows : List ℕ) (head : Head) (count : ℕ) (all : count ≤ head.cou
 
 -- ---- rounds
 
--- rounds of sweeps went from s₀ to s; c words grew in the last
-pub record Settled (rows : List ℕ) (count : ℕ) (s₀ s : List ℕ) (c : ℕ) : Type 0 where
+-- rounds of sweeps went from s₀ to s
+pub record Rounded (rows : List ℕ) (count : ℕ) (s₀ s : List ℕ) : Type 0 where
+  pub within : Within s₀ s
+  pub bounded : Bounded s₀ → Bounded s
+  pub sound : (head : Head) → count ≤ head.count → Sound (grammar_in rows head) s₀ → Sound (grammar_in rows head) s
+
+-- and a sweep has nothing to add
+pub record Settled (rows : List ℕ) (count : ℕ) (s₀ s : List ℕ) : Type 0 where
   pub within : Within s₀ s
   pub sound : (head : Head) → count ≤ head.count → Sound (grammar_in rows head) s₀ → Sound (grammar_in rows head) s
-  pub closed : c ≡ 0 → swept rows false count count s ≡ s
+  pub closed : swept rows false count count s ≡ s
 
 module _ (rows : List ℕ) (count : ℕ) where
-  pub settled_start : (s : List ℕ) → Settled rows count s s 1
-  settled_start s = record { within = within_refl s; sound = λ head l h. h; closed = λ e. absurd (omega arith) }
+  pub rounded_start : (s : List ℕ) → Rounded rows count s s
+  rounded_start s = record { within = within_refl s; bounded = λ b. b; sound = λ head l h. h }
 
-  pub settled_turn : (s₀ s s' s'' : List ℕ) (c a b : ℕ) → Settled rows count s₀ s c → s' ≡ swept rows true count count s → s'' ≡ swept rows false count count s'
-      → Grew s s' a → Grew s' s'' b → Settled rows count s₀ s'' (a + b)
-  settled_turn s₀ s s' s'' c a b h e f g k =
-      let one : Within s s' = rw e (within_swept rows true count count s) in
-      let two : Within s' s'' = rw f (within_swept rows false count count s') in
-      record {
-        within = within_trans h.within (within_trans one two);
-        sound = λ head l q.
-            rw f (sound_swept rows head count l false count (omega arith)
-            (rw e (sound_swept rows head count l true count (omega arith) (h.sound head l q))));
-        closed = λ z. let w = k.still (omega arith) in ap (swept rows false count count) w ∙ sym f;
-      }
+  module _ (s₀ s s' s'' : List ℕ) (h : Rounded rows count s₀ s) (e : s' ≡ swept rows true count count s) (f : s'' ≡ swept rows false count count s') where
+    pub rounded_turn : Rounded rows count s₀ s''
+    rounded_turn =
+        let one : Within s s' = rw e (within_swept rows true count count s) in
+        let two : Within s' s'' = rw f (within_swept rows false count count s') in
+        record {
+          within = within_trans h.within (within_trans one two);
+          bounded = λ b. rw f (bounded_swept rows false count count s' (rw e (bounded_swept rows true count count s (h.bounded b))));
+          sound = λ head l q.
+              rw f (sound_swept rows head count l false count (omega arith)
+              (rw e (sound_swept rows head count l true count (omega arith) (h.sound head l q))));
+        }
 
-pub settled_less : (s s' s'' : List ℕ) (c a b : ℕ) → length s'' ≡ sets_size → ((i : ℕ) → i < length s'' → get_or s'' i 0 < 2 ^ word_bits) → 0 < c → Grew s s' a → Grew s' s'' b
-    → sets_size * 2 ^ word_bits - total s'' + (a + b) < sets_size * 2 ^ word_bits - total s + c
-settled_less s s' s'' c a b n h l g k =
-    let q : total s'' ≤ length s'' * 2 ^ word_bits = total_bound s'' (2 ^ word_bits) (λ i m. omega (arith, h i m)) in
-    let r : total s'' ≤ sets_size * 2 ^ word_bits = rw n at q in
-    omega (arith, g.more, k.more)
+    -- the last round changed nothing
+    pub settled_turn : s'' ≡ s → Settled rows count s₀ s''
+    settled_turn z =
+        let one : Within s s' = rw e (within_swept rows true count count s) in
+        let two : Within s' s'' = rw f (within_swept rows false count count s') in
+        let same = (still_both one two z).1 in
+        let r = rounded_turn in
+        record { within = r.within; sound = r.sound; closed = ap (swept rows false count count) same ∙ sym f }
 
-pub settled_done : (rows : List ℕ) (count : ℕ) (s₀ s : List ℕ) (c : ℕ) → c ≤ 0 → Settled rows count s₀ s c → Settled rows count s₀ s 0
-settled_done rows count s₀ s c l h = let z : c ≡ 0 = omega arith in rw z at h
+    -- a round that made words grow leaves less to grow
+    pub rounds_less : length s₀ ≡ sets_size → Bounded s₀ → total s < total s'' → sets_size * 2 ^ word_bits - total s'' < sets_size * 2 ^ word_bits - total s
+    rounds_less n b g =
+        let r = rounded_turn in
+        let q = bounded_total s'' (r.within.long ∙ n) (r.bounded b) in
+        omega arith
 
 -- ---- the beginning is sound, and has what needs no production
 
@@ -142,7 +154,7 @@ closed_as : {s : List ℕ} (M M' : ℕ) (γ γ' : List ℕ) → M ≡ M' → γ 
 closed_as M M' γ γ' e f h = rw (e, f) h
 
 module _ (rows : List ℕ) (head : Head) (few : head.t ≤ max_terminals) (low : head.start < symbol_space) where
-  pub known_settled : {s : List ℕ} → Settled rows head.count (begun head.t head.start) s 0 → Known (grammar_in rows head) s
+  pub known_settled : {s : List ℕ} → Settled rows head.count (begun head.t head.start) s → Known (grammar_in rows head) s
   unfolding grammar_in begun
   known_settled {s} h =
       record {
@@ -150,7 +162,7 @@ module _ (rows : List ℕ) (head : Head) (few : head.t ≤ max_terminals) (low :
         sound = h.sound head (omega arith) (sound_begun few low);
         full =
             record {
-              closed = λ p M γ r. let q = rule_row rows head r in closed_as M (left_at rows q.row) γ (body_at rows q.row) q.left q.body (closed_swept rows false head.count s long (h.closed refl) q.row q.low);
+              closed = λ p M γ r. let q = rule_row rows head r in closed_as M (left_at rows q.row) γ (body_at rows q.row) q.left q.body (closed_swept rows false head.count s long h.closed q.row q.low);
               self = λ a w. h.within.bits a a (token_bits head.t base lb few a w.0 w.1).0;
               token = λ a w. h.within.bits (marks + a) 0 (token_bits head.t base lb few a w.0 w.1).1;
               ends = h.within.bits (follows + head.start) 0 ((within_tokens head.t base).bits (follows + head.start) 0 ends);
@@ -181,5 +193,5 @@ module _ (rows : List ℕ) (head : Head) (few : head.t ≤ max_terminals) (low :
 
 -- from the beginning to the end
 pub known_from : (rows : List ℕ) (head : Head) (b s : List ℕ) → head.t ≤ max_terminals → head.start < symbol_space → b ≡ begun head.t head.start
-    → Settled rows head.count b s 0 → Known (grammar_in rows head) s
+    → Settled rows head.count b s → Known (grammar_in rows head) s
 known_from rows head b s few low e h = known_settled rows head few low (rw e at h)

@@ -2,7 +2,7 @@
 // A first bad record never stands beyond byte 1,541, the size of the longest image, so that the first 4,096 bytes decide.
 #![tactic(auto)]
 
-use grammar::{GrammarRead, Head};
+use grammar::Head;
 use std::io;
 
 const MAX_INPUT: usize = 4096;
@@ -56,7 +56,7 @@ fn main(rt: HostRuntime) -> io::Result<()> {
     let n = streams::read_full(&mut rt.stdin(), &mut image)?;
     let mut rows = [0u8; grammar::ROWS_SIZE];
     match grammar::read_grammar(&image[..n], &mut rows) {
-        GrammarRead::Good(head) => print_grammar(&rt, head, &rows),
-        GrammarRead::Bad(offset) => print_refusal(&rt, offset),
+        Ok(head) => print_grammar(&rt, head, &rows),
+        Err(bad) => print_refusal(&rt, bad.offset),
     }
 }

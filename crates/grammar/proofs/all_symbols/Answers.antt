@@ -1,30 +1,12 @@
-use Rattle.grammar.specs.Reading.{symbols}
+use Rattle.std.proofs.Common.{◌≤◌, ◌<◌, ◌⊎◌}
+use Rattle.std.proofs.lemmas.Iterator.{cases_from_all, YieldsList-from_slice}
 use borrow.Author.Rules.{rules}
+use borrow.Author.Tests.{tests}
+use Rattle.grammar.specs.Reading.{tells_symbols}
 use Rattle.grammar.proofs.all_symbols.Goals as goal
 
-pub loop-i-init : goal.loop-i-init
-loop-i-init c = search (symbols, rules)
-
-pub bounds-b-i : goal.bounds-b-i
-bounds-b-i c = search (symbols, rules)
-
-pub wide-x-requires : goal.wide-x-requires
-wide-x-requires c = search (symbols, rules)
-
-pub returns-then-x-eq0 : goal.returns-then-x-eq0
-returns-then-x-eq0 c = search (symbols, rules)
-
-pub returns-then-last-x : goal.returns-then-last-x
-returns-then-last-x c = search (symbols, rules)
-
-pub overflow_add-i : goal.overflow_add-i
-overflow_add-i c = search (symbols, rules)
-
-pub loop-i-smaller : goal.loop-i-smaller
-loop-i-smaller c = search (symbols, rules)
-
-pub loop-i-preserved : goal.loop-i-preserved
-loop-i-preserved c = search (symbols, rules)
-
 pub returns : goal.returns
-returns c = search (symbols, rules)
+returns c =
+    tells_symbols _ _ _
+    (cases_from_all _ _ _ (λ x. (1 ≤ x) × (x ≤ c.args.last)) (λ x. (x < 1) ⊎ (c.args.last < x)) c.all.ensures.ran (YieldsList-from_slice c.args.b.now cc)
+    (λ x q k. search (rules, tests)) (λ x q k. search (rules, tests)))

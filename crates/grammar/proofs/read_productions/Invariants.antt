@@ -4,7 +4,13 @@ use Rattle.grammar.specs.Limits.{max_terminals, max_nonterminals, max_production
 use Rattle.grammar.proofs.read_productions.Given as goal
 
 abbrev pub invariant-loop-rest : goal.invariant-loop-rest
-invariant-loop-rest l = (l.count ≤ max_productions) × (l.t ≤ max_terminals) × (l.n ≤ max_nonterminals) × Reading l.image l.t l.n l.s l.rest l.rows l.count l.offset
+invariant-loop-rest l =
+    record {
+      few : l.head.count ≤ max_productions;
+      terminals : l.head.t ≤ max_terminals;
+      nonterminals : l.head.n ≤ max_nonterminals;
+      reading : Reading l.image l.head.t l.head.n l.head.start l.rest l.rows l.head.count l.offset;
+    }
 
 abbrev pub decreases-loop-rest : goal.decreases-loop-rest
-decreases-loop-rest l = max_productions - l.count
+decreases-loop-rest l = max_productions - l.head.count

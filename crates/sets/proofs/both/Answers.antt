@@ -6,6 +6,6 @@ pub returns-then-mark-eq1 : goal.returns-then-mark-eq1
 unfolding both
 returns-then-mark-eq1 c = search ways depth 12
 
-pub returns : goal.returns
+pub returns-else-mark-eq1 : goal.returns-else-mark-eq1
 unfolding both
-returns c = search ways depth 12
+returns-else-mark-eq1 c = search ways depth 12

@@ -6,6 +6,6 @@ pub returns-then-word-eq1 : goal.returns-then-word-eq1
 unfolding leads
 returns-then-word-eq1 c = search ways depth 12
 
-pub returns : goal.returns
+pub returns-else-word-eq1 : goal.returns-else-word-eq1
 unfolding leads
-returns c = search ways depth 12
+returns-else-word-eq1 c = search ways depth 12

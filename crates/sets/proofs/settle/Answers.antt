@@ -1,16 +1,50 @@
-use Rattle.sets.specs.Rounds.{settled_start, settled_turn, settled_less, settled_done}
+use Rattle.std.proofs.Common.{◌≡◌, true, false, arith}
 use borrow.Author.Rules.{rules}
-use Rattle.std.proofs.Common.{arith}
+use Rattle.sets.specs.Words.{swept}
+use Rattle.sets.specs.Sweeps.{grew_none, grew_join, sweep_none, sweep_back, sweep_front, sweep_all}
+use Rattle.sets.specs.Rounds.{rounded_start, rounded_turn, settled_turn, rounds_less}
 use Rattle.sets.proofs.settle.Goals as goal
+use Rattle.sets.proofs.settle.Goals.{After-front}
 
-pub loop-c-init : goal.loop-c-init
-loop-c-init c = search (settled_start, rules)
+-- what the two sweeps came to
+back_done : (c : After-front) → c.back.sets ≡ swept c.args.rows.now true c.args.count c.args.count c.rounds.sets
+back_done c = sweep_all _ _ _ _ _ _ (omega arith) c.back.invariant.swept
 
-pub loop-c-smaller : goal.loop-c-smaller
-loop-c-smaller c = settled_less _ _ _ _ _ _ (search rules) (λ i l. omega (arith, c.slice_known-in-loop-c-2-1.given i)) c.loop-c-test.true c.sweep-a.ensures.0.1 c.sweep-b.ensures.0.1
+front_done : (c : After-front) → c.front.sets ≡ swept c.args.rows.now false c.args.count c.args.count c.back.sets
+front_done c = sweep_all _ _ _ _ _ _ (omega arith) c.front.invariant.swept
 
-pub loop-c-preserved : goal.loop-c-preserved
-loop-c-preserved c = (search rules, search rules, settled_turn _ _ _ _ _ _ _ _ _ c.loop-c.invariant.2 c.sweep-a.ensures.0.0 c.sweep-b.ensures.0.0 c.sweep-a.ensures.0.1 c.sweep-b.ensures.0.1)
+pub rounds-init : goal.rounds-init
+rounds-init c = rounded_start _ _ _
 
-pub returns : goal.returns
-returns c = search (settled_done, rules)
+pub back-init : goal.back-init
+back-init c = record { swept = sweep_none _ _ _ _ _ (omega arith); grew = grew_none _ }
+
+pub back-preserved : goal.back-preserved
+back-preserved c =
+    record {
+      swept = sweep_back _ _ _ _ _ _ (search rules) (search rules) c.back.invariant.swept c.produce-grew.ensures.0;
+      grew = grew_join c.back.invariant.grew c.produce-grew.ensures.1;
+    }
+
+pub front-init : goal.front-init
+front-init c = record { swept = sweep_none _ _ _ _ _ (omega arith); grew = λ s h. h }
+
+pub front-preserved : goal.front-preserved
+front-preserved c =
+    record {
+      swept = sweep_front _ _ _ _ _ _ c.front.invariant.swept c.produce-grew-in-front.ensures.0;
+      grew = λ s h. grew_join (c.front.invariant.grew s h) c.produce-grew-in-front.ensures.1;
+    }
+
+pub returns-then-not-grew : goal.returns-then-not-grew
+returns-then-not-grew c =
+    settled_turn _ _ _ _ _ _ c.rounds.invariant (back_done (goal.at.returns-then-not-grew c).After-front) (front_done (goal.at.returns-then-not-grew c).After-front)
+    ((c.front.invariant.grew _ c.back.invariant.grew).still c.if-not-grew.true)
+
+pub rounds-preserved : goal.rounds-preserved
+rounds-preserved c = rounded_turn _ _ _ _ _ _ c.rounds.invariant (back_done (goal.at.rounds-preserved c).After-front) (front_done (goal.at.rounds-preserved c).After-front)
+
+pub rounds-smaller : goal.rounds-smaller
+rounds-smaller c =
+    rounds_less _ _ _ _ _ _ c.rounds.invariant (back_done (goal.at.rounds-smaller c).After-front) (front_done (goal.at.rounds-smaller c).After-front) c.told-sets c.fits-sets
+    ((c.front.invariant.grew _ c.back.invariant.grew).more c.if-not-grew.false)
