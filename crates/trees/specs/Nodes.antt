@@ -6,13 +6,7 @@ use Rattle.std.proofs.Math.Option.{some}
 use Rattle.grammar.specs.Grammar.{Grammar, Production, numbered, Rule, Terminal}
 use Rattle.grammar.specs.Forest.{Token, Forest, size, yield, Derives}
 use Rattle.grammar.specs.Trees.{join, parts}
-
--- a slot, its symbol and production (0 for a leaf), and its tag (0 unless a leaf)
-pub record Node : Type 0 where
-  pub slot : ℕ
-  pub symbol : ℕ
-  pub production : ℕ
-  pub tag : ℕ
+pub use Rattle.trees.specs.declared.Node.{Node}
 
 abbrev pub leaf_node : ℕ → ℕ → ℕ → Node
 leaf_node s a g = record { slot = s; symbol = a; production = 0; tag = g }
