@@ -1,8 +1,9 @@
 -- Tokens written one behind the other.
-use Rattle.std.specs.Prelude.{ℕ, ◌+◌, ◌-◌, ◌*◌, ◌/◌, ◌%◌, ◌≤◌, min, ◌≡◌, List, [], ◌∷◌, ◌++◌, length, set, take, drop}
-use Rattle.std.proofs.Common.{sym, ap, ◌∙◌, append_assoc, append-nil, take-append-drop, length-append, length-take-le, take_at, drop-drop, arith}
-use Rattle.std.proofs.Math.Seq.{take-length, drop-append-add, paste, paste-zero, paste-suc}
-use Rattle.base.specs.Bytes.{put16, le_bytes}
+use Rattle.std.specs.Prelude.{ℕ, ◌+◌, ◌-◌, ◌*◌, ◌≤◌, min, ◌≡◌, List, [], ◌++◌, length, take, drop}
+use Rattle.std.proofs.Common.{refl, sym, ap, ◌∙◌, append_assoc, append-nil, take-append-drop, length-append, length-take-le, take_at, drop-drop, arith}
+use Rattle.std.proofs.Math.Seq.{take-length, drop-append-add}
+use Rattle.std.proofs.lemmas.Slice.{put_mid-paste}
+use borrow.Rule.Slice.PartMut.{put_mid}
 use Rattle.base.specs.Blocks.{copied}
 use Rattle.grammar.specs.Forest.{Token}
 use Rattle.plain.specs.Tokens.{token_size, token_bytes, length_token_bytes, token_bytes_append}
@@ -44,23 +45,9 @@ added_more {u} {v} {out} {out'} {out''} {at} {i} {j} l h k =
       count = omega (arith, length-append u v, h.count, k.count);
     }
 
--- one token, its kind and then its tag by two and two
-pub token_put : (w : List ℕ) (at kind tag : ℕ) (w₁ w₂ w₃ : List ℕ) → at + token_size ≤ length w → w₁ ≡ set w at kind → w₂ ≡ put16 w₁ (at + 1) (tag % 65536)
-    → w₃ ≡ put16 w₂ (at + 3) (tag / 65536 % 65536) → w₃ ≡ copied w at (kind ∷ le_bytes 4 tag)
-unfolding copied le_bytes
-token_put w at kind tag w₁ w₂ w₃ room e₁ e₂ e₃ =
-    let src : List ℕ = kind ∷ le_bytes 4 tag in
-    let n : min (length src) (length w - at) ≡ 5 = omega arith in
-    let z0 : at + 0 ≡ at = omega arith in
-    let z2 : at + 1 + 1 ≡ at + 2 = omega arith in
-    let z4 : at + 3 + 1 ≡ at + 4 = omega arith in
-    let b1 : tag % 65536 % 256 ≡ tag % 256 = omega arith in
-    let b2 : tag % 65536 / 256 ≡ tag / 256 % 256 = omega arith in
-    let b3 : tag / 65536 % 65536 % 256 ≡ tag / 256 / 256 % 256 = omega arith in
-    let b4 : tag / 65536 % 65536 / 256 ≡ tag / 256 / 256 / 256 % 256 = omega arith in
-    let s0 : set w at kind ≡ paste w at src 1 = ap (λ (u : List ℕ). set u at kind) (paste-zero w at src) ∙ ap (λ (k : ℕ). set (paste w at src 0) k kind) (sym z0) ∙ paste-suc w at src 0 0 (omega arith) (omega arith) in
-    let s1 = paste-suc w at src 1 0 (omega arith) (omega arith) in
-    let s2 = paste-suc w at src 2 0 (omega arith) (omega arith) in
-    let s3 = paste-suc w at src 3 0 (omega arith) (omega arith) in
-    let s4 = paste-suc w at src 4 0 (omega arith) (omega arith) in
-    rw (n, e₃, e₂, e₁, z2, z4, b1, b2, b3, b4, s0, s1, s2, s3, s4)
+-- a part of the bytes, written as a whole
+pub copied_part : (w part src : List ℕ) (at k : ℕ) → part ≡ src → k ≡ length src → at + k ≤ length w → put_mid at k w part ≡ copied w at src
+unfolding copied
+copied_part w part src at k e n l =
+    let q : min (length src) (length w - at) ≡ k = omega arith in
+    rw q (put_mid-paste at k w part src k e refl n)

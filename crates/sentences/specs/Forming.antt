@@ -1,17 +1,17 @@
 -- The new sentence of an edit, from its three parts.
-use Rattle.std.specs.Prelude.{ℕ, zero, suc, ◌+◌, ◌-◌, ◌*◌, ◌≤◌, min, ◌≡◌, refl, List, [], ◌∷◌, ◌++◌, length, take, drop}
+use Rattle.std.specs.Prelude.{ℕ, zero, suc, ◌+◌, ◌-◌, ◌*◌, ◌/◌, ◌≤◌, min, ◌≡◌, refl, List, [], ◌∷◌, ◌++◌, length, take, drop}
 use Rattle.std.proofs.Common.{sym, ap, ◌∙◌, append_assoc, length-take, drop_of_length-le, take_all, take-take, take_at, drop-drop, arith}
 use Rattle.std.proofs.Math.Logic.{by_cases}
 use Rattle.std.proofs.Math.Seq.{drop-nil}
 use Rattle.std.proofs.Math.Decide.{dec_lt}
 use Rattle.base.specs.Bytes.{Bytes}
-use Rattle.base.specs.Blocks.{copied}
+use borrow.Rule.Slice.PartMut.{put_mid}
 use Rattle.grammar.specs.Forest.{Token}
 use Rattle.trees.specs.Nodes.{leaves_of}
 use Rattle.trees.specs.Coded.{nodes_from}
 use Rattle.plain.specs.Tokens.{token_size, token_bytes, length_token_bytes, tokens_from, tokens_part, length_tokens}
 use Rattle.edits.specs.Keeping.{edit_of, edited}
-use Rattle.sentences.specs.Adding.{Added, added_copy, added_more}
+use Rattle.sentences.specs.Adding.{Added, added_copy, added_more, copied_part}
 use Rattle.sentences.specs.Leaves.{leaves_from, leaves_whole, Gave, Skipped}
 
 -- the first `limit` tokens of the new sentence, r of them, stand at the beginning of out'; the old one is that of the n nodes, and b are the m lent tokens
@@ -32,18 +32,20 @@ front_bytes b k f l =
     ap (take (token_size * k)) e ∙ take_at (token_bytes (tokens_from b k 0)) (drop (token_size * k) b) (token_size * k) (omega (arith, length_token_bytes (tokens_from b k 0), length_tokens b k 0))
 
 -- as many of them as there is room for
-pub tokens_added : (out out' b : List ℕ) (at m end k : ℕ) → out' ≡ copied out (token_size * at) (take (token_size * k - 0) (drop 0 b)) → Bytes b → length b ≡ token_size * m → at ≤ end → token_size * end ≤ length out
-    → k ≡ min m (end - at) → Added (take (end - at) (tokens_from b m 0)) out out' at (at + k)
-tokens_added out out' b at m end k c f lb l lo ek =
-    let y : token_size * k - 0 ≡ token_size * k = omega arith in
-    let lm = length_tokens b m 0 in
-    let s : take (token_size * k - 0) (drop 0 b) ≡ token_bytes (tokens_from b k 0) = rw y (front_bytes b k f (omega arith)) in
-    let t : take (end - at) (tokens_from b m 0) ≡ tokens_from b k 0 =
+pub tokens_put : (out part b : List ℕ) (at end size k m : ℕ) → size ≡ min (length b) (token_size * end - token_size * at) → part ≡ take size b → k ≡ size → Bytes b → at ≤ end → token_size * end ≤ length out
+    → length b ≡ token_size * m → Added (take (end - at) (tokens_from b m 0)) out (put_mid (token_size * at) k out part) at (at + size / token_size)
+tokens_put out part b at end size k m es ep ek f l lo lb =
+    let n : ℕ = min m (end - at) in
+    let q : size ≡ token_size * n = omega arith in
+    let d : size / token_size ≡ n = omega arith in
+    let t : take (end - at) (tokens_from b m 0) ≡ tokens_from b n 0 =
     by_cases (dec_lt m (end - at))
-    (λ o. let q : k ≡ m = omega arith in rw q (take_all (end - at) (tokens_from b m 0) (omega arith)))
-    (λ o. let q : k ≡ end - at = omega arith in rw q (take_tokens b (end - at) m 0 (omega arith)))
+    (λ o. let z : n ≡ m = omega arith in rw z (take_all (end - at) (tokens_from b m 0) (omega (arith, length_tokens b m 0))))
+    (λ o. let z : n ≡ end - at = omega arith in rw z (take_tokens b (end - at) m 0 (omega arith)))
     in
-    rw t (added_copy (tokens_from b k 0) out out' (take (token_size * k - 0) (drop 0 b)) at (at + k) s (omega (arith, length_tokens b k 0)) (omega arith) c)
+    let s : take size b ≡ token_bytes (tokens_from b n 0) = rw q (front_bytes b n f (omega arith)) in
+    let c = copied_part out part (take size b) (token_size * at) k ep (omega (arith, length-take size b)) (omega arith) in
+    rw (t, d) (added_copy (tokens_from b n 0) out (put_mid (token_size * at) k out part) (take size b) at (at + n) s (omega (arith, length_tokens b n 0)) (omega arith) c)
 
 -- ---- one behind the other
 

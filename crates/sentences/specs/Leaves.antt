@@ -8,7 +8,7 @@ use native.Mathlib.Omega.{arith}
 use Rattle.base.specs.Bytes.{le_bytes}
 use Rattle.base.specs.Blocks.{copied}
 use Rattle.grammar.specs.Forest.{Token}
-use Rattle.trees.specs.Nodes.{leaves_of}
+use Rattle.trees.specs.Nodes.{Node, leaves_of}
 use Rattle.trees.specs.Coded.{node_at, nodes_from}
 use Rattle.plain.specs.Tokens.{token_size, token_bytes}
 use Rattle.sentences.specs.Adding.{Added, added_none, added_copy, added_more}
@@ -26,21 +26,19 @@ module _ (nodes : List ℕ) (n i : ℕ) where
   unfolding leaves_from
   leaves_none l = let q : n - i ≡ 0 = omega arith in rw q
 
-  module _ (p : ℕ) (l : i < n) (e : p ≡ (node_at nodes i).production) where
-    leaves_inner : (p ≡ 0 → ⊥) → leaves_from nodes n i ≡ leaves_from nodes n (i + 1)
+  -- node i is e
+  module _ (e : Node) (l : i < n) (is : e ≡ node_at nodes i) where
+    leaves_inner : (e.production ≡ 0 → ⊥) → leaves_from nodes n i ≡ leaves_from nodes n (i + 1)
     unfolding leaves_from
-    leaves_inner z = let q : n - i ≡ suc (n - (i + 1)) = omega arith in rw q (go (node_at nodes i).production refl)
+    leaves_inner z = let q : n - i ≡ suc (n - (i + 1)) = omega arith in rw (q, ← is) (go e.production refl)
       where
-        go : (p' : ℕ) → (node_at nodes i).production ≡ p' → leaves_of (node_at nodes i ∷ nodes_from nodes (n - (i + 1)) (i + 1)) ≡ leaves_of (nodes_from nodes (n - (i + 1)) (i + 1))
-        go zero y = absurd (z (e ∙ y))
-        go (suc p') y = rw y
+        go : (p : ℕ) → e.production ≡ p → leaves_of (e ∷ nodes_from nodes (n - (i + 1)) (i + 1)) ≡ leaves_of (nodes_from nodes (n - (i + 1)) (i + 1))
+        go zero y = absurd (z y)
+        go (suc p) y = rw y
 
-    leaves_leaf : p ≡ 0 → leaves_from nodes n i ≡ record { kind = (node_at nodes i).symbol; tag = (node_at nodes i).tag } ∷ leaves_from nodes n (i + 1)
+    leaves_leaf : e.production ≡ 0 → leaves_from nodes n i ≡ record { kind = e.symbol; tag = e.tag } ∷ leaves_from nodes n (i + 1)
     unfolding leaves_from
-    leaves_leaf z =
-        let q : n - i ≡ suc (n - (i + 1)) = omega arith in
-        let y : (node_at nodes i).production ≡ 0 = sym e ∙ z in
-        rw (q, y)
+    leaves_leaf z = let q : n - i ≡ suc (n - (i + 1)) = omega arith in rw (q, ← is, z)
 
 -- ---- written
 
@@ -60,19 +58,19 @@ module _ (nodes : List ℕ) (n from : ℕ) (out : List ℕ) (at : ℕ) where
   giving_none = record { given = []; added = added_none out at; rest = refl }
 
   module _ (i j : ℕ) (out' : List ℕ) (h : Giving nodes n from out at i j out') where
-    pub giving_inner : (p : ℕ) → i < n → p ≡ (node_at nodes i).production → (p ≡ 0 → ⊥) → Giving nodes n from out at (i + 1) j out'
-    giving_inner p l e z = record { given = h.given; added = h.added; rest = h.rest ∙ ap (λ (u : List Token). h.given ++ u) (leaves_inner nodes n i p l e z) }
+    pub giving_inner : (e : Node) → i < n → e ≡ node_at nodes i → (e.production ≡ 0 → ⊥) → Giving nodes n from out at (i + 1) j out'
+    giving_inner e l is z = record { given = h.given; added = h.added; rest = h.rest ∙ ap (λ (u : List Token). h.given ++ u) (leaves_inner nodes n i e l is z) }
 
-    pub giving_leaf : (p x g : ℕ) (out'' : List ℕ) → i < n → p ≡ (node_at nodes i).production → p ≡ 0 → x ≡ (node_at nodes i).symbol → g ≡ (node_at nodes i).tag
-        → length out' ≡ length out → token_size * (j + 1) ≤ length out → out'' ≡ copied out' (token_size * j) (x ∷ le_bytes 4 g) → Giving nodes n from out at (i + 1) (j + 1) out''
-    giving_leaf p x g out'' l e z ex eg lo room c =
-        let k : Token = record { kind = (node_at nodes i).symbol; tag = (node_at nodes i).tag } in
-        let s : x ∷ le_bytes 4 g ≡ token_bytes (k ∷ []) = rw (ex, eg, append-nil (le_bytes 4 (node_at nodes i).tag)) in
-        let a : Added (k ∷ []) out' out'' j (j + 1) = added_copy (k ∷ []) out' out'' (x ∷ le_bytes 4 g) j (j + 1) s refl (omega arith) c in
+    pub giving_leaf : (e : Node) (out'' : List ℕ) → i < n → e ≡ node_at nodes i → e.production ≡ 0
+        → length out' ≡ length out → token_size * (j + 1) ≤ length out → out'' ≡ copied out' (token_size * j) (e.symbol ∷ le_bytes 4 e.tag) → Giving nodes n from out at (i + 1) (j + 1) out''
+    giving_leaf e out'' l is z lo room c =
+        let k : Token = record { kind = e.symbol; tag = e.tag } in
+        let s : e.symbol ∷ le_bytes 4 e.tag ≡ token_bytes (k ∷ []) = rw (append-nil (le_bytes 4 e.tag)) in
+        let a : Added (k ∷ []) out' out'' j (j + 1) = added_copy (k ∷ []) out' out'' (e.symbol ∷ le_bytes 4 e.tag) j (j + 1) s refl (omega arith) c in
         record {
           given = h.given ++ (k ∷ []);
           added = added_more (omega arith) h.added a;
-          rest = h.rest ∙ ap (λ (u : List Token). h.given ++ u) (leaves_leaf nodes n i p l e z) ∙ sym (append_assoc h.given (k ∷ []) (leaves_from nodes n (i + 1)));
+          rest = h.rest ∙ ap (λ (u : List Token). h.given ++ u) (leaves_leaf nodes n i e l is z) ∙ sym (append_assoc h.given (k ∷ []) (leaves_from nodes n (i + 1)));
         }
 
     -- as far as token `end`
@@ -84,12 +82,13 @@ module _ (nodes : List ℕ) (n from : ℕ) (out : List ℕ) (at : ℕ) where
         record { added = rw t h.added; rest = sym d }
 
     -- or all of them
-    pub gave_all : (end : ℕ) → n ≤ i → j ≤ end → Gave nodes n from out at end i j out'
+    pub gave_all : (end : ℕ) → i ≡ n → j ≤ end → Gave nodes n from out at end n j out'
     gave_all end l m =
-        let z = leaves_none nodes n i l in
+        let z = leaves_none nodes n i (omega arith) in
         let c : leaves_from nodes n from ≡ h.given = h.rest ∙ ap (λ (u : List Token). h.given ++ u) z ∙ append-nil h.given in
         let f : length h.given ≤ end - at = omega (arith, h.added.count) in
-        record { added = rw (c, take_all (end - at) h.given f) h.added; rest = z ∙ sym (rw c (drop_of_length-le h.given {i = end - at} f)) }
+        let g : Gave nodes n from out at end i j out' = record { added = rw (c, take_all (end - at) h.given f) h.added; rest = z ∙ sym (rw c (drop_of_length-le h.given {i = end - at} f)) } in
+        rw l at g
 
 -- ---- passed over
 
@@ -102,17 +101,20 @@ module _ (nodes : List ℕ) (n from k : ℕ) where
   skipped_none = record { is = refl }
 
   module _ (i left : ℕ) (h : Skipped nodes n from k i left) where
-    pub skipped_inner : (p : ℕ) → i < n → p ≡ (node_at nodes i).production → (p ≡ 0 → ⊥) → Skipped nodes n from k (i + 1) left
-    skipped_inner p l e z = record { is = rw (leaves_inner nodes n i p l e z) at h.is }
+    pub skipped_inner : (e : Node) → i < n → e ≡ node_at nodes i → (e.production ≡ 0 → ⊥) → Skipped nodes n from k (i + 1) left
+    skipped_inner e l is z = record { is = rw (leaves_inner nodes n i e l is z) at h.is }
 
-    pub skipped_leaf : (p : ℕ) → i < n → p ≡ (node_at nodes i).production → p ≡ 0 → (left ≡ 0 → ⊥) → Skipped nodes n from k (i + 1) (left - 1)
-    skipped_leaf p l e z o =
+    pub skipped_leaf : (e : Node) → i < n → e ≡ node_at nodes i → e.production ≡ 0 → (left ≡ 0 → ⊥) → Skipped nodes n from k (i + 1) (left - 1)
+    skipped_leaf e l is z o =
         let q : suc (left - 1) ≡ left = omega arith in
-        let u : List Token = record { kind = (node_at nodes i).symbol; tag = (node_at nodes i).tag } ∷ leaves_from nodes n (i + 1) in
-        record { is = ap (λ (x : ℕ). drop x u) q ∙ rw (leaves_leaf nodes n i p l e z) at h.is }
+        let u : List Token = record { kind = e.symbol; tag = e.tag } ∷ leaves_from nodes n (i + 1) in
+        record { is = ap (λ (x : ℕ). drop x u) q ∙ rw (leaves_leaf nodes n i e l is z) at h.is }
 
     pub skipped_full : left ≡ 0 → Skipped nodes n from k i 0
     skipped_full e = rw e at h
 
-    pub skipped_all : n ≤ i → Skipped nodes n from k i 0
-    skipped_all l = let z = leaves_none nodes n i l in record { is = z ∙ sym (drop-nil left) ∙ rw z at h.is }
+    pub skipped_all : i ≡ n → Skipped nodes n from k n 0
+    skipped_all l =
+        let z = leaves_none nodes n i (omega arith) in
+        let s : Skipped nodes n from k i 0 = record { is = z ∙ sym (drop-nil left) ∙ rw z at h.is } in
+        rw l at s

@@ -2,7 +2,7 @@
 // They are put together in the work area, behind the nodes. The tokens stand behind the nodes, in the same bytes.
 #![tactic(auto)]
 
-ghost use Rattle.std.specs.Prelude.{◌≡◌, ◌+◌, ◌-◌, ◌*◌, ◌<◌, ◌≤◌, ◌∷◌, length, take, drop};
+ghost use Rattle.std.specs.Prelude.{◌≡◌, ℕ, ◌+◌, ◌-◌, ◌*◌, ◌≤◌, ◌∷◌, length, take, drop};
 ghost use Rattle.base.specs.Bytes.{le_bytes};
 ghost use Rattle.base.specs.Blocks.{copied};
 ghost use Rattle.trees.specs.Coded.{node_size};
@@ -12,101 +12,97 @@ ghost use Rattle.sentences.specs.Leaves.{Gave, Skipped};
 ghost use Rattle.sentences.specs.Forming.{NewSentence};
 ghost use Rattle.sentences.specs.Behind.{Fronted};
 
+use trees::Node;
+
 // How far the leaves are written: the next node, and the next token.
-#[derive(Clone, Copy)]
+#[derive(Clone, Copy, Debug, PartialEq, Eq)]
 pub struct Reached {
     node: usize,
     token: usize,
 }
 
-// Writes a token at `at`.
-fn put_token(out: &mut [u8], at: usize, kind: usize, tag: usize)
-    requires { (kind < 256) × (at + token_size ≤ length out.old) }
-    ensures { out.new ≡ copied out.old at (kind ∷ le_bytes 4 tag) }
+// The bytes of a leaf's token.
+fn token_bytes(leaf: Node) -> [u8; plain::TOKEN_SIZE]
+    ensures { result ≡ leaf.symbol ∷ le_bytes 4 leaf.tag }
 {
-    base::put_byte(out, at, kind as u8);
-    base::put_two(out, at + 1, tag % 65536);
-    base::put_two(out, at + 3, tag / 65536 % 65536);
+    let [tag, tag_1, tag_2, tag_3] = leaf.tag.to_le_bytes();
+    [leaf.symbol, tag, tag_1, tag_2, tag_3]
 }
 
-// Writes the tokens of the leaves among n nodes, from node `from` on: the first one as token `at`, the last one before token `end`. The tokens stand behind the nodes, from byte `text` on.
-fn give(work: &mut [u8], n: usize, from: usize, text: usize, at: usize, end: usize) -> Reached
-    requires { (from ≤ n) × (at ≤ end) × (node_size * n ≤ text) × (text + token_size * end ≤ length work.old) }
-    ensures { Gave work.old n from (drop text work.old) at end result.node result.token (drop text work.new) × Fronted text work.old work.new × (result.node ≤ n) × (result.token ≤ end) }
+// Writes a leaf's token as token j.
+fn put_token(text: &mut [u8], j: usize, leaf: Node)
+    requires { token_size * j + token_size ≤ length text.old }
+    ensures { text.new ≡ copied text.old (token_size * j) (leaf.symbol ∷ le_bytes 4 leaf.tag) }
 {
-    let mut i = from;
-    let mut j = at;
-    while i < n {
-        if j == end {
-            return Reached { node: i, token: j };
+    let at = plain::TOKEN_SIZE * j;
+    text[at..at + plain::TOKEN_SIZE].copy_from_slice(&token_bytes(leaf));
+}
+
+// Writes the tokens of the leaves among n nodes, from node `from` on: the first one as token `at`, the last one before token `end`.
+fn give(nodes: &[u8], n: usize, from: usize, text: &mut [u8], at: usize, end: usize) -> Reached
+    requires { (from ≤ n) × (at ≤ end) × (node_size * n ≤ length nodes.now) × (token_size * end ≤ length text.old) }
+    ensures { Gave nodes.now n from text.old at end result.node result.token text.new × (result.node ≤ n) × (result.token ≤ end) }
+{
+    let mut token = at;
+    for node in from..n {
+        if token == end {
+            return Reached { node, token };
         }
-        let p = trees::production_of(work, i);
-        let k = i;
-        i += 1;
-        if p != 0 {
-            continue;
+        let leaf = trees::node_in(nodes, node);
+        if leaf.production == 0 {
+            put_token(text, token, leaf);
+            token += 1;
         }
-        let symbol = trees::symbol_of(work, k);
-        let tag = trees::tag_of(work, k);
-        put_token(work, text + plain::TOKEN_SIZE * j, symbol, tag);
-        j += 1;
     }
-    Reached { node: i, token: j }
+    Reached { node: n, token }
 }
 
 // The node behind k leaves, from node `from` on.
 fn skip(nodes: &[u8], n: usize, from: usize, k: usize) -> usize
-    requires { from ≤ n }
+    requires { (from ≤ n) × (node_size * n ≤ length nodes.now) }
     ensures { Skipped nodes.now n from k result 0 × (result ≤ n) }
 {
     let mut left = k;
-    let mut i = from;
-    while i < n {
+    for i in from..n {
         if left == 0 {
             return i;
         }
-        let p = trees::production_of(nodes, i);
-        i += 1;
-        if p != 0 {
-            continue;
+        if trees::node_in(nodes, i).production == 0 {
+            left -= 1;
         }
-        left -= 1;
     }
-    i
+    n
 }
 
-// Writes m tokens from token `at` on, those before token `end`, and answers the next one. They stand from byte `text` on.
-fn put_tokens(work: &mut [u8], text: usize, at: usize, tokens: &[u8], m: usize, end: usize) -> usize
-    requires { (at ≤ end) × (text + token_size * end ≤ length work.old) × (length tokens.now ≡ token_size * m) }
-    ensures { Added (take (end - at) (tokens_from tokens.now m 0)) (drop text work.old) (drop text work.new) at result × Fronted text work.old work.new × (result ≤ end) }
+// Writes the lent tokens from token `at` on, those before token `end`, and answers the next one.
+fn put_tokens(text: &mut [u8], at: usize, tokens: &[u8], end: usize) -> usize
+    requires { (at ≤ end) × (token_size * end ≤ length text.old) }
+    ensures { ((m : ℕ) → length tokens.now ≡ token_size * m → Added (take (end - at) (tokens_from tokens.now m 0)) text.old text.new at result) × (result ≤ end) }
 {
-    let k = base::least(m, end - at);
-    base::copy(
-        work,
-        text + plain::TOKEN_SIZE * at,
-        &tokens[0..plain::TOKEN_SIZE * k],
-    );
-    at + k
+    let from = plain::TOKEN_SIZE * at;
+    let size = tokens.len().min(plain::TOKEN_SIZE * end - from);
+    text[from..from + size].copy_from_slice(&tokens[..size]);
+    at + size / plain::TOKEN_SIZE
 }
 
-// Writes the first `limit` tokens of the new sentence, from byte `text` on: of n nodes' leaves, those from `place` on, `removed` of them, are replaced by the m tokens. It answers how many tokens are written.
+// Writes the first `limit` tokens of the new sentence, from byte `text` on: of n nodes' leaves, those from `place` on, `removed` of them, are replaced by the lent tokens. It answers how many tokens are written.
 pub fn new_sentence(
     work: &mut [u8],
     n: usize,
     place: usize,
     removed: usize,
     tokens: &[u8],
-    m: usize,
     limit: usize,
     text: usize,
 ) -> usize
-    requires { (node_size * n ≤ text) × (length tokens.now ≡ token_size * m) × (text + token_size * limit ≤ length work.old) }
-    ensures { NewSentence work.old n place removed tokens.now m limit (drop text work.old) (drop text work.new) result × Fronted text work.old work.new × (result ≤ limit) }
+    requires { (node_size * n ≤ text) × (text + token_size * limit ≤ length work.old) }
+    ensures { ((m : ℕ) → length tokens.now ≡ token_size * m → NewSentence work.old n place removed tokens.now m limit (drop text work.old) (drop text work.new) result) × Fronted text work.old work.new × (result ≤ limit) }
 {
-    let before = give(work, n, 0, text, 0, base::least(place, limit));
-    let next = put_tokens(work, text, before.token, tokens, m, limit);
-    let node = skip(work, n, before.node, removed);
-    let after = give(work, n, node, text, next, limit);
+    let (nodes, text) = work.split_at_mut(text);
+    let before = give(nodes, n, 0, text, 0, place.min(limit));
+    let next = put_tokens(text, before.token, tokens, limit);
+    let node = skip(nodes, n, before.node, removed);
+    let after = give(nodes, n, node, text, next, limit);
     after.token
 }
 
@@ -115,8 +111,9 @@ pub fn give_out(work: &mut [u8], n: usize, text: usize, tokens: usize, output: &
     requires { (node_size * n ≤ text) × (text + token_size * tokens ≤ length work.old) × (token_size * tokens ≤ length output.old) }
     ensures { Gave work.old n 0 output.old 0 tokens result.node result.token output.new }
 {
-    let reached = give(work, n, 0, text, 0, tokens);
-    let end = text + plain::TOKEN_SIZE * reached.token;
-    base::copy(output, 0, &work[text..end]);
+    let (nodes, room) = work.split_at_mut(text);
+    let reached = give(nodes, n, 0, room, 0, tokens);
+    let size = plain::TOKEN_SIZE * reached.token;
+    output[..size].copy_from_slice(&room[..size]);
     reached
 }

@@ -1,5 +1,5 @@
 -- The first trees of a forest become the children of a slot: their parent links are set, and the next link of the last one is cut.
-use Rattle.std.specs.Prelude.{ℕ, zero, suc, ◌+◌, ◌-◌, ◌*◌, ◌≤◌, ◌<◌, ◌≡◌, refl, length}
+use Rattle.std.specs.Prelude.{ℕ, zero, suc, ◌+◌, ◌*◌, ◌≤◌, ◌<◌, ◌≡◌, refl, length}
 use Rattle.std.proofs.Common.{sym, ap, ◌∙◌, arith}
 use mathlib.Core.List.Memᴰ
 use mathlib.Core.List.{List, [], ◌∷◌, ◌++◌, Memᴰ}
@@ -26,11 +26,10 @@ adopted parent (suc k) b s =
     let w = put16 b (slot_size * s + parent_place) parent in
     adopted parent k w (get16 w (slot_size * s + next_place))
 
-pub adopted_turn : (parent k s : ℕ) (b w : List ℕ) (n : ℕ) → 0 < k → w ≡ put16 b (slot_size * s + parent_place) parent → n ≡ get16 w (slot_size * s + next_place)
-    → adopted parent (k - 1) w n ≡ adopted parent k b s
+pub adopted_turn : (parent m k s : ℕ) (b w : List ℕ) (n : ℕ) → m ≡ suc k → w ≡ put16 b (slot_size * s + parent_place) parent → n ≡ get16 w (slot_size * s + next_place)
+    → adopted parent k w n ≡ adopted parent m b s
 unfolding adopted
-adopted_turn parent zero s b w n l e h = absurd (omega arith)
-adopted_turn parent (suc k) s b w n l e h = let q : suc k - 1 ≡ k = omega arith in rw (q, h, e)
+adopted_turn parent m k s b w n q e h = rw (q, h, e)
 
 pub adopted_end : (parent k s : ℕ) (b w w' : List ℕ) (n : ℕ) (x : Adopted) → k ≡ 0 → adopted parent k b s ≡ x → w ≡ put16 b (slot_size * s + parent_place) parent
     → n ≡ get16 w (slot_size * s + next_place) → w' ≡ put16 w (slot_size * s + next_place) 0 → (w' ≡ x.bytes) × (n ≡ x.next)
@@ -64,12 +63,11 @@ reach_kept b s v zero x h = rw (length_put16 b (slot_size * s + parent_place) v)
 reach_kept b s v (suc k) x h =
     (rw (length_put16 b (slot_size * s + parent_place) v) h.0, rw (next_kept b s v x) (reach_kept b s v k (get16 b (slot_size * x + next_place)) h.1))
 
-pub reach_turn : (parent k s : ℕ) (b w : List ℕ) (n : ℕ) → 0 < k → w ≡ put16 b (slot_size * s + parent_place) parent → n ≡ get16 w (slot_size * s + next_place) → Reach b k s → Reach w (k - 1) n
+pub reach_turn : (parent m k s : ℕ) (b w : List ℕ) (n : ℕ) → m ≡ suc k → w ≡ put16 b (slot_size * s + parent_place) parent → n ≡ get16 w (slot_size * s + next_place) → Reach b m s → Reach w k n
 unfolding Reach
-reach_turn parent zero s b w n l e h i = absurd (omega arith)
-reach_turn parent (suc k) s b w n l e h i =
-    let q : suc k - 1 ≡ k = omega arith in
-    rw (q, h, e, next_kept b s parent s) (reach_kept b s parent k (get16 b (slot_size * s + next_place)) i.1)
+reach_turn parent m k s b w n q e h i =
+    let r : Reach b (suc k) s = rw q at i in
+    rw (h, e, next_kept b s parent s) (reach_kept b s parent k (get16 b (slot_size * s + next_place)) r.1)
 
 -- ---- what stays linked where slots are left as they were
 

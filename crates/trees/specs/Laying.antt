@@ -38,12 +38,12 @@ laid_none S ar w n m b l e =
 pub record Ready (ar : ℕ → ℕ) (e : Node) (head : ℕ) (b : List ℕ) : Type 0 where
   pub reach : 0 < e.production → (k : ℕ) → 0 < k → k ≡ ar e.production → Reach b (k - 1) head
 
-pub ready_reach : (ar : ℕ → ℕ) (e : Node) (head k p : ℕ) (b : List ℕ) → p ≡ e.production → (p ≡ 0 → ⊥) → k ≡ ar e.production → (k ≡ 0 → ⊥) → Ready ar e head b → Reach b (k - 1) head
-ready_reach ar e head k p b i z q n h = h.reach (omega (arith, z)) k (omega (arith, n)) q
+pub ready_reach : (ar : ℕ → ℕ) (e : Node) (head k : ℕ) (b : List ℕ) → (e.production ≡ 0 → ⊥) → k ≡ ar e.production → (k ≡ 0 → ⊥) → Ready ar e head b → Reach b (k - 1) head
+ready_reach ar e head k b z q n h = h.reach (omega (arith, z)) k (omega (arith, n)) q
 
--- node e is put before those that are laid out, and r is its slot
-pub record Lays (ar : ℕ → ℕ) (e : Node) (head : ℕ) (b : List ℕ) (r : ℕ) (b' : List ℕ) : Type 0 where
-  pub lays : (S : ℕ) (es : List Node) → S ≤ max_slots → Spread S (e ∷ es) → Fed ar (e ∷ es) → Laid S ar es head b → Laid S ar (e ∷ es) r b'
+-- node e is put before those that are laid out
+pub record Lays (ar : ℕ → ℕ) (e : Node) (head : ℕ) (b b' : List ℕ) : Type 0 where
+  pub lays : (S : ℕ) (es : List Node) → S ≤ max_slots → Spread S (e ∷ es) → Fed ar (e ∷ es) → Laid S ar es head b → Laid S ar (e ∷ es) e.slot b'
 
 -- the forest of the nodes es, its slots those of es, and e's slot none of them
 module _ (S : ℕ) (ar : ℕ → ℕ) (e : Node) (es : List Node) (h : Spread S (e ∷ es)) where
@@ -73,62 +73,59 @@ module _ (S : ℕ) (ar : ℕ → ℕ) (e : Node) (es : List Node) (h : Spread S 
         free = λ s i j k. u.others s (λ y. k (Memᴰ.head y)) ∙ o s (λ y. k (Memᴰ.tail (rw (slots_build ar es) at y))) ∙ a.free s i j (λ y. k (Memᴰ.tail y));
       }
 
--- as the code has read node e: its slot s, symbol x, production p and tag g
-module _ (ar : ℕ → ℕ) (e : Node) (head s x p : ℕ) (b b' : List ℕ) (is_slot : s ≡ e.slot) (is_symbol : x ≡ e.symbol) (is_production : p ≡ e.production) where
-  pub lay_leaf : (g : ℕ) → p ≡ 0 → g ≡ e.tag → g < tag_space → Slotted b s (slot_bytes x 0 0 0 head g) b' → Lays ar e head b s b'
-  lay_leaf g z q l u = rw is_slot (record { lays = go })
+module _ (ar : ℕ → ℕ) (e : Node) (head : ℕ) (b b' : List ℕ) where
+  pub lay_leaf : e.production ≡ 0 → e.tag < tag_space → Slotted b e.slot (slot_bytes e.symbol e.production 0 0 head e.tag) b' → Lays ar e head b b'
+  lay_leaf z l u' = record { lays = go }
     where
-      u' : Slotted b e.slot (slot_bytes e.symbol 0 0 0 head e.tag) b'
-      u' = rw (is_slot, is_symbol, q) at u
+      u : Slotted b e.slot (slot_bytes e.symbol 0 0 0 head e.tag) b'
+      u = rw z at u'
 
       go : (S : ℕ) (es : List Node) → S ≤ max_slots → Spread S (e ∷ es) → Fed ar (e ∷ es) → Laid S ar es head b → Laid S ar (e ∷ es) e.slot b'
       go S es m h d a =
           let f = Forest.leaf e.slot e.symbol e.tag (build ar es) in
           let v : Linked b' 0 f =
-          Linked.leaf (u'.here ∙ ap (λ (y : ℕ). slot_bytes e.symbol 0 0 0 y e.tag) a.first) (rw q at l)
-          (linked_kept (λ y i. u'.others y (λ k. absent S ar e es h y k i)) a.linked) in
-          let o = above_leaf ar e.slot e.symbol e.tag (build ar es) e.production (sym is_production ∙ z) in
-          laid_more S ar e es h head b b (slot_bytes e.symbol 0 0 0 head e.tag) b' f o refl v refl (λ y i. refl) u' a
+          Linked.leaf (u.here ∙ ap (λ (y : ℕ). slot_bytes e.symbol 0 0 0 y e.tag) a.first) l (linked_kept (λ y i. u.others y (λ k. absent S ar e es h y k i)) a.linked) in
+          let o = above_leaf ar e.slot e.symbol e.tag (build ar es) e.production z in
+          laid_more S ar e es h head b b (slot_bytes e.symbol 0 0 0 head e.tag) b' f o refl v refl (λ y i. refl) u a
 
   -- an inner node, once k trees are its children
-  lay_above : (k n first : ℕ) (w : List ℕ) → (p ≡ 0 → ⊥) → k ≡ ar e.production → Slotted w s (slot_bytes x p 0 first n 0) b' → (S : ℕ) (es : List Node) → Spread S (e ∷ es)
-      → first ≡ top (front k (build ar es)) → Takes e.slot k (build ar es) b w n → Laid S ar es head b → Laid S ar (e ∷ es) e.slot b'
+  lay_above : (k n first : ℕ) (w : List ℕ) → (e.production ≡ 0 → ⊥) → k ≡ ar e.production → Slotted w e.slot (slot_bytes e.symbol e.production 0 first n 0) b' → (S : ℕ) (es : List Node)
+      → Spread S (e ∷ es) → first ≡ top (front k (build ar es)) → Takes e.slot k (build ar es) b w n → Laid S ar es head b → Laid S ar (e ∷ es) e.slot b'
   lay_above k n first w z y u S es h i t a =
       let f = Forest.node e.slot e.symbol e.production (front k (build ar es)) (back k (build ar es)) in
-      let u' : Slotted w e.slot (slot_bytes e.symbol e.production 0 first n 0) b' = rw (is_slot, is_symbol, is_production) at u in
       let o : above ar e (build ar es) ≡ f = rw y (above_inner ar e.slot e.symbol e.tag (build ar es) e.production (omega (arith, z))) in
       let c : slot_at b' e.slot ≡ slot_bytes e.symbol e.production 0 (top (front k (build ar es))) (top (back k (build ar es))) 0 =
-      u'.here ∙ ap (λ (v : ℕ). slot_bytes e.symbol e.production 0 v n 0) i
+      u.here ∙ ap (λ (v : ℕ). slot_bytes e.symbol e.production 0 v n 0) i
       ∙ ap (λ (v : ℕ). slot_bytes e.symbol e.production 0 (top (front k (build ar es))) v 0) t.next in
       let in_front : (v : ℕ) → Memᴰ v (slots (front k (build ar es))) → Memᴰ v (slots (build ar es)) =
       λ v j. rw (slots_parts k (build ar es)) at (Memᴰ.append_left (slots (back k (build ar es))) j) in
       let in_back : (v : ℕ) → Memᴰ v (slots (back k (build ar es))) → Memᴰ v (slots (build ar es)) =
       λ v j. rw (slots_parts k (build ar es)) at (Memᴰ.append_right (slots (front k (build ar es))) j) in
       let l : Linked b' 0 f =
-      Linked.node c (linked_kept (λ v j. u'.others v (λ q. absent S ar e es h v q (in_front v j))) t.children)
-      (linked_kept (λ v j. u'.others v (λ q. absent S ar e es h v q (in_back v j))) t.rest) in
-      laid_more S ar e es h head b w (slot_bytes e.symbol e.production 0 first n 0) b' f o refl l t.long t.others u' a
+      Linked.node c (linked_kept (λ v j. u.others v (λ q. absent S ar e es h v q (in_front v j))) t.children)
+      (linked_kept (λ v j. u.others v (λ q. absent S ar e es h v q (in_back v j))) t.rest) in
+      laid_more S ar e es h head b w (slot_bytes e.symbol e.production 0 first n 0) b' f o refl l t.long t.others u a
 
-  pub lay_empty : (k : ℕ) → (p ≡ 0 → ⊥) → k ≡ ar e.production → k ≡ 0 → Slotted b s (slot_bytes x p 0 0 head 0) b' → Lays ar e head b s b'
-  lay_empty k z y i u = rw is_slot (record { lays = go })
+  pub lay_empty : (k : ℕ) → (e.production ≡ 0 → ⊥) → k ≡ ar e.production → k ≡ 0 → Slotted b e.slot (slot_bytes e.symbol e.production 0 0 head 0) b' → Lays ar e head b b'
+  lay_empty k z y i u = record { lays = go }
     where
       go : (S : ℕ) (es : List Node) → S ≤ max_slots → Spread S (e ∷ es) → Fed ar (e ∷ es) → Laid S ar es head b → Laid S ar (e ∷ es) e.slot b'
       go S es m h d a =
           lay_above 0 head 0 b z (sym i ∙ y) u S es h refl
           (record { long = refl; children = Linked.nil; rest = a.linked; next = a.first; others = λ v j. refl }) a
 
-  pub lay_inner : (k n : ℕ) (w : List ℕ) → (p ≡ 0 → ⊥) → k ≡ ar e.production → (k ≡ 0 → ⊥) → s < 65536
-      → (w ≡ (adopted s (k - 1) b head).bytes) × (n ≡ (adopted s (k - 1) b head).next) → Slotted w s (slot_bytes x p 0 head n 0) b' → Lays ar e head b s b'
+  pub lay_inner : (k n : ℕ) (w : List ℕ) → (e.production ≡ 0 → ⊥) → k ≡ ar e.production → (k ≡ 0 → ⊥) → e.slot < 65536
+      → (w ≡ (adopted e.slot (k - 1) b head).bytes) × (n ≡ (adopted e.slot (k - 1) b head).next) → Slotted w e.slot (slot_bytes e.symbol e.production 0 head n 0) b' → Lays ar e head b b'
   lay_inner zero n w z y i l j u = absurd (i refl)
-  lay_inner (suc k) n w z y i l j u = rw is_slot (record { lays = go })
+  lay_inner (suc k) n w z y i l j u = record { lays = go }
     where
       go : (S : ℕ) (es : List Node) → S ≤ max_slots → Spread S (e ∷ es) → Fed ar (e ∷ es) → Laid S ar es head b → Laid S ar (e ∷ es) e.slot b'
       go S es m h (Fed.cons d _) a =
           let f = build ar es in
           let g : ar e.production ≤ trees f = d (omega (arith, z)) in
-          let t = adopts e.slot k b f (rw is_slot at l) (omega arith) a.linked (once_below S ar e es h) (small_below S ar e es h m) in
+          let t = adopts e.slot k b f l (omega arith) a.linked (once_below S ar e es h) (small_below S ar e es h m) in
           let o : suc k - 1 ≡ k = omega arith in
-          let c : adopted s (suc k - 1) b head ≡ adopted e.slot k b (top f) = rw (is_slot, o, a.first) in
+          let c : adopted e.slot (suc k - 1) b head ≡ adopted e.slot k b (top f) = rw (o, a.first) in
           let t' : Takes e.slot (suc k) f b w n =
           rw (← (j.0 ∙ ap (λ (v : Adopted). v.bytes) c), ← (j.1 ∙ ap (λ (v : Adopted). v.next) c)) at t in
           lay_above (suc k) n head w z y u S es h (a.first ∙ top_front k f) t' a
@@ -136,9 +133,9 @@ module _ (ar : ℕ → ℕ) (e : Node) (head s x p : ℕ) (b b' : List ℕ) (is_
 -- ---- the nodes from the last to the first
 
 -- how many children a production has, as the code reads it
-pub arity_at : (rows : List ℕ) (k p q : ℕ) → p ≡ q → k ≡ length_at rows (p - 1) → k ≡ arity_in rows q
+pub arity_at : (rows : List ℕ) (k p : ℕ) → k ≡ length_at rows (p - 1) → k ≡ arity_in rows p
 unfolding arity_in
-arity_at rows k p q e h = rw (← e) h
+arity_at rows k p h = h
 
 -- what holds of a list's rest where it holds of the list, holds of the nodes from node i on
 nodes_behind : (P : List Node → Type 0) → ((e : Node) (es : List Node) → P (e ∷ es) → P es) → (w : List ℕ) (i k j : ℕ) → P (nodes_from w (i + k) j) → P (nodes_from w k (j + i))
@@ -192,19 +189,11 @@ module _ (w : List ℕ) (n i : ℕ) (l : 0 < i) (m : i ≤ n) where
           let u = c z in
           rw a.first (linked_reach (j - 1) S b (build ar (nodes_from w (n - i) i)) k a.long (omega arith) a.linked within)
 
-  pub laid_turn : (S : ℕ) (ar : ℕ → ℕ) (head r : ℕ) (b b' : List ℕ) → S ≤ max_slots → Spread S (nodes_from w n 0) → Fed ar (nodes_from w n 0)
-      → Lays ar (node_at w (i - 1)) head b r b' → Laid S ar (nodes_from w (n - i) i) head b → Laid S ar (nodes_from w (n - (i - 1)) (i - 1)) r b'
-  laid_turn S ar head r b b' k h d u a = rw nodes_before (u.lays S (nodes_from w (n - i) i) k (spread_from S h) (fed_from ar d) a)
+  pub laid_turn : (S : ℕ) (ar : ℕ → ℕ) (head : ℕ) (b b' : List ℕ) → S ≤ max_slots → Spread S (nodes_from w n 0) → Fed ar (nodes_from w n 0)
+      → Lays ar (node_at w (i - 1)) head b b' → Laid S ar (nodes_from w (n - i) i) head b → Laid S ar (nodes_from w (n - (i - 1)) (i - 1)) (node_at w (i - 1)).slot b'
+  laid_turn S ar head b b' k h d u a = rw nodes_before (u.lays S (nodes_from w (n - i) i) k (spread_from S h) (fed_from ar d) a)
 
 -- ---- the tokens
-
-pub token_leaf : (p q : ℕ) → p ≡ q → p ≡ 0 → 1 ≡ leaf_of q
-token_leaf p zero e z = refl
-token_leaf p (suc q) e z = absurd (omega arith)
-
-pub token_inner : (p q : ℕ) → p ≡ q → (p ≡ 0 → ⊥) → 0 ≡ leaf_of q
-token_inner p zero e z = absurd (z e)
-token_inner p (suc q) e z = refl
 
 -- `tokens` of the nodes es are leaves
 pub record Counted (ar : ℕ → ℕ) (es : List Node) (tokens : ℕ) : Type 0 where

@@ -13,13 +13,6 @@ use Rattle.trees.specs.Slots.{apart}
 abbrev pub node_of : ℕ → ℕ → ℕ → ℕ → Node
 node_of s x p g = record { slot = s; symbol = x; production = p; tag = g }
 
--- the numbers fit a node's bytes
-pub record Fits (s x p g : ℕ) : Type 0 where
-  pub slot : s < 65536
-  pub symbol : x < 256
-  pub production : p < 256
-  pub tag : g < tag_space
-
 -- w' is w with e as node i
 pub record Put (w : List ℕ) (i : ℕ) (e : Node) (w' : List ℕ) : Type 0 where
   pub long : length w' ≡ length w
@@ -27,21 +20,22 @@ pub record Put (w : List ℕ) (i : ℕ) (e : Node) (w' : List ℕ) : Type 0 wher
   pub before : (j : ℕ) → j < node_size * i → byte_at w' j ≡ byte_at w j
   pub behind : (j : ℕ) → node_size * i + node_size ≤ j → byte_at w' j ≡ byte_at w j
 
-pub put_filled : (w w' src : List ℕ) (i s x p g : ℕ) → src ≡ node_bytes (node_of s x p g) → Fits s x p g → Filled (byte_at src) (node_size * i) node_size w w' → Put w i (node_of s x p g) w'
+pub put_filled : (w w' src : List ℕ) (i : ℕ) (e : Node) → src ≡ node_bytes e → e.slot < 65536 → e.tag < tag_space → Filled (byte_at src) (node_size * i) (length src) w w' → Put w i e w'
 unfolding node_at node_bytes le_bytes
-put_filled w w' src i s x p g e b u =
-    let h : Filled (byte_at (node_bytes (node_of s x p g))) (node_size * i) node_size w w' = rw e at u in
-    let a0 : byte_at w' (node_size * i) ≡ x = ap (byte_at w') (omega arith) ∙ h.inside 0 (omega arith) in
-    let a1 : byte_at w' (node_size * i + 1) ≡ p = h.inside 1 (omega arith) in
-    let a2 : byte_at w' (node_size * i + 2) ≡ s % 256 = h.inside 2 (omega arith) in
-    let a3 : byte_at w' (node_size * i + 2 + 1) ≡ s / 256 % 256 = ap (byte_at w') (omega arith) ∙ h.inside 3 (omega arith) in
-    let a4 : byte_at w' (node_size * i + 4) ≡ g % 256 = h.inside 4 (omega arith) in
-    let a5 : byte_at w' (node_size * i + 4 + 1) ≡ g / 256 % 256 = ap (byte_at w') (omega arith) ∙ h.inside 5 (omega arith) in
-    let a6 : byte_at w' (node_size * i + 4 + 2) ≡ g / 256 / 256 % 256 = ap (byte_at w') (omega arith) ∙ h.inside 6 (omega arith) in
-    let a7 : byte_at w' (node_size * i + 4 + 3) ≡ g / 256 / 256 / 256 % 256 = ap (byte_at w') (omega arith) ∙ h.inside 7 (omega arith) in
-    let s' : get16 w' (node_size * i + 2) ≡ s = omega arith in
-    let g' : get32 w' (node_size * i + 4) ≡ g = omega arith in
-    record { long = h.long; node = cc; before = h.before; behind = h.behind }
+put_filled w w' src i e q ls lg u =
+    let h : Filled (byte_at (node_bytes e)) (node_size * i) node_size w w' = rw q at u in
+    let a0 : byte_at w' (node_size * i) ≡ e.symbol = ap (byte_at w') (omega arith) ∙ h.inside 0 (omega arith) in
+    let a1 : byte_at w' (node_size * i + 1) ≡ e.production = h.inside 1 (omega arith) in
+    let a2 : byte_at w' (node_size * i + 2) ≡ e.slot % 256 = h.inside 2 (omega arith) in
+    let a3 : byte_at w' (node_size * i + 2 + 1) ≡ e.slot / 256 % 256 = ap (byte_at w') (omega arith) ∙ h.inside 3 (omega arith) in
+    let a4 : byte_at w' (node_size * i + 4) ≡ e.tag % 256 = h.inside 4 (omega arith) in
+    let a5 : byte_at w' (node_size * i + 4 + 1) ≡ e.tag / 256 % 256 = ap (byte_at w') (omega arith) ∙ h.inside 5 (omega arith) in
+    let a6 : byte_at w' (node_size * i + 4 + 2) ≡ e.tag / 256 / 256 % 256 = ap (byte_at w') (omega arith) ∙ h.inside 6 (omega arith) in
+    let a7 : byte_at w' (node_size * i + 4 + 3) ≡ e.tag / 256 / 256 / 256 % 256 = ap (byte_at w') (omega arith) ∙ h.inside 7 (omega arith) in
+    let s' : get16 w' (node_size * i + 2) ≡ e.slot = omega arith in
+    let g' : get32 w' (node_size * i + 4) ≡ e.tag = omega arith in
+    let n : node_at w' i ≡ node_of e.slot e.symbol e.production e.tag = cc in
+    record { long = h.long; node = n; before = h.before; behind = h.behind }
 
 pub node_kept : (w w' : List ℕ) (i : ℕ) → ((j : ℕ) → node_size * i ≤ j → j < node_size * (i + 1) → byte_at w' j ≡ byte_at w j) → node_at w' i ≡ node_at w i
 unfolding node_at
@@ -123,22 +117,3 @@ node_out w i l =
     let a7 = byte_out w (node_size * i + 4 + 3) (omega arith) in
     let g : 0 ≡ get32 w (node_size * i + 4) = omega arith in
     cc
-
--- of node i, as its bytes are read
-
-module _ (w : List ℕ) (i : ℕ) where
-  pub node_symbol : byte_at w (node_size * i) ≡ (node_at w i).symbol
-  unfolding node_at
-  node_symbol = refl
-
-  pub node_production : byte_at w (node_size * i + 1) ≡ (node_at w i).production
-  unfolding node_at
-  node_production = refl
-
-  pub node_slot : get16 w (node_size * i + 2) ≡ (node_at w i).slot
-  unfolding node_at
-  node_slot = refl
-
-  pub node_tag : get32 w (node_size * i + 4) ≡ (node_at w i).tag
-  unfolding node_at
-  node_tag = refl

@@ -6,13 +6,11 @@ use Rattle.std.proofs.Math.Option.{some}
 use Rattle.grammar.specs.Grammar.{Grammar, Production, numbered, Rule, Terminal}
 use Rattle.grammar.specs.Forest.{Token, Forest, size, yield, Derives}
 use Rattle.grammar.specs.Trees.{join, parts}
+use Rattle.trees.specs.declared.Node as declared
 
--- a slot, its symbol and production (0 for a leaf), and its tag (0 unless a leaf)
-pub record Node : Type 0 where
-  pub slot : ℕ
-  pub symbol : ℕ
-  pub production : ℕ
-  pub tag : ℕ
+-- a slot, its symbol and production (0 for a leaf), and its tag (0 unless a leaf), as the code has them
+abbrev pub Node : Type 0
+Node = declared.Node
 
 abbrev pub leaf_node : ℕ → ℕ → ℕ → Node
 leaf_node s a g = record { slot = s; symbol = a; production = 0; tag = g }

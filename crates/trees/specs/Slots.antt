@@ -56,6 +56,9 @@ slotted_filled b b' src c s f e n u =
     go x (inl l) j y z = u.before j (omega arith)
     go x (inr l) j y z = u.behind j (omega arith)
 
+pub slotted_bytes : (b b' src c : List ℕ) (s : ℕ) → slot_size * s + slot_size ≤ length b → src ≡ c → length c ≡ slot_size → Filled (byte_at src) (slot_size * s) (length src) b b' → Slotted b s c b'
+slotted_bytes b b' src c s f e n u = slotted_filled b b' src c s f e n (rw (ap length e ∙ n) at u)
+
 -- ---- one link written
 
 slot_set : (b : List ℕ) (s j v : ℕ) → j < slot_size → slot_at (set b (slot_size * s + j) v) s ≡ set (slot_at b s) j v

@@ -6,8 +6,8 @@ ghost use Rattle.trees.specs.Area.{slot_size, max_slots, area_size, tag_space, s
 ghost use Rattle.base.specs.Bytes.{byte_at, get16, put16};
 ghost use Rattle.base.specs.Filled.{Filled};
 ghost use Rattle.trees.specs.Coded.{node_size, node_bytes, node_at, nodes_from, arity_in};
-ghost use Rattle.trees.specs.Nodes.{leaf_of, build, Fed};
-ghost use Rattle.trees.specs.Listing.{node_of, in_slot, Fits, Put};
+ghost use Rattle.trees.specs.Nodes.{build, Fed};
+ghost use Rattle.trees.specs.Listing.{in_slot, Put};
 ghost use Rattle.trees.specs.Slots.{Slotted};
 ghost use Rattle.trees.specs.Adopting.{adopted, Reach};
 ghost use Rattle.trees.specs.Laying.{Ready, Lays};
@@ -57,86 +57,105 @@ pub const TAG_PLACE: usize = 10;
 
 pub const SPARE_PLACE: usize = 14;
 
-// Of node i, counted from 0: its symbol, production, slot and tag. A read beyond the end gives 0.
+// A node: its slot, its symbol and production (0 for a leaf), and its tag (0 unless a leaf).
+#[derive(Clone, Copy, Debug, PartialEq, Eq)]
+pub struct Node {
+    pub slot: u16,
+    pub symbol: u8,
+    pub production: u8,
+    pub tag: u32,
+}
+
+// Node i, counted from 0. A read beyond the end gives 0.
+pub fn node_at(nodes: &[u8], i: usize) -> Node
+    ensures { result ≡ node_at nodes.now i }
+{
+    if nodes.len() / NODE_SIZE < i {
+        return Node {
+            slot: 0,
+            symbol: 0,
+            production: 0,
+            tag: 0,
+        };
+    }
+    let at = NODE_SIZE * i;
+    Node {
+        slot: base::get16(nodes, at + 2) as u16,
+        symbol: base::byte_at(nodes, at) as u8,
+        production: base::byte_at(nodes, at + 1) as u8,
+        tag: base::get32(nodes, at + 4) as u32,
+    }
+}
+
+// The same inside the list: one bound for all, so that they are read at once.
+pub fn node_in(nodes: &[u8], i: usize) -> Node
+    requires { node_size * i + node_size ≤ length nodes.now }
+    ensures { result ≡ node_at nodes.now i }
+{
+    let at = NODE_SIZE * i;
+    Node {
+        slot: base::two(nodes, at + 2) as u16,
+        symbol: nodes[at],
+        production: nodes[at + 1],
+        tag: base::four(nodes, at + 4) as u32,
+    }
+}
+
 pub fn symbol_of(nodes: &[u8], i: usize) -> usize
     ensures { (result ≡ (node_at nodes.now i).symbol) × (result < 256) }
 {
-    if nodes.len() / NODE_SIZE < i {
-        return 0;
-    }
-    base::byte_at(nodes, NODE_SIZE * i)
+    usize::from(node_at(nodes, i).symbol)
 }
 
 pub fn production_of(nodes: &[u8], i: usize) -> usize
     ensures { (result ≡ (node_at nodes.now i).production) × (result < 256) }
 {
-    if nodes.len() / NODE_SIZE < i {
-        return 0;
-    }
-    base::byte_at(nodes, NODE_SIZE * i + 1)
+    usize::from(node_at(nodes, i).production)
 }
 
 pub fn slot_of(nodes: &[u8], i: usize) -> usize
     ensures { (result ≡ (node_at nodes.now i).slot) × (result < 65536) }
 {
-    if nodes.len() / NODE_SIZE < i {
-        return 0;
-    }
-    base::get16(nodes, NODE_SIZE * i + 2)
+    usize::from(node_at(nodes, i).slot)
 }
 
 pub fn tag_of(nodes: &[u8], i: usize) -> usize
     ensures { (result ≡ (node_at nodes.now i).tag) × (result < tag_space) }
 {
-    if nodes.len() / NODE_SIZE < i {
-        return 0;
-    }
-    base::get32(nodes, NODE_SIZE * i + 4)
+    node_at(nodes, i).tag as usize
 }
 
-// Writes `src`, n bytes, from `at` on.
-fn put_bytes(w: &mut [u8], at: usize, src: &[u8], n: usize)
-    requires { (at + n ≤ length w.old) × (n ≡ length src.now) }
-    ensures { Filled (byte_at src.now) at n w.old w.new }
+// Writes `src` from `at` on.
+fn put_bytes(w: &mut [u8], at: usize, src: &[u8])
+    requires { at + length src.now ≤ length w.old }
+    ensures { Filled (byte_at src.now) at (length src.now) w.old w.new }
 {
-    let mut i = 0;
-    while i < n {
-        w[at + i] = src[i];
-        i += 1;
-    }
+    w[at..at + src.len()].copy_from_slice(src);
 }
 
-// The bytes of a node.
-fn node_bytes(slot: usize, symbol: usize, production: usize, tag: usize) -> [u8; 8]
-    requires { Fits slot symbol production tag }
-    ensures { result ≡ node_bytes (node_of slot symbol production tag) }
+fn node_bytes(node: Node) -> [u8; NODE_SIZE]
+    ensures { result ≡ node_bytes node }
 {
+    let [slot, slot_high] = node.slot.to_le_bytes();
+    let [tag, tag_1, tag_2, tag_3] = node.tag.to_le_bytes();
     [
-        symbol as u8,
-        production as u8,
-        (slot % 256) as u8,
-        (slot / 256 % 256) as u8,
-        (tag % 256) as u8,
-        (tag / 256 % 256) as u8,
-        (tag / 256 / 256 % 256) as u8,
-        (tag / 256 / 256 / 256 % 256) as u8,
+        node.symbol,
+        node.production,
+        slot,
+        slot_high,
+        tag,
+        tag_1,
+        tag_2,
+        tag_3,
     ]
 }
 
 // Writes node i.
-pub fn put_node(
-    nodes: &mut [u8],
-    i: usize,
-    slot: usize,
-    symbol: usize,
-    production: usize,
-    tag: usize,
-)
-    requires { (node_size * i + node_size ≤ length nodes.old) × Fits slot symbol production tag }
-    ensures { Put nodes.old i (node_of slot symbol production tag) nodes.new }
+pub fn put_node(nodes: &mut [u8], i: usize, node: Node)
+    requires { node_size * i + node_size ≤ length nodes.old }
+    ensures { Put nodes.old i node nodes.new }
 {
-    let bytes = node_bytes(slot, symbol, production, tag);
-    put_bytes(nodes, NODE_SIZE * i, &bytes, NODE_SIZE);
+    put_bytes(nodes, NODE_SIZE * i, &node_bytes(node));
 }
 
 // Gives node i another slot.
@@ -147,119 +166,103 @@ pub fn set_slot(nodes: &mut [u8], i: usize, slot: usize)
     base::put_two(nodes, NODE_SIZE * i + 2, slot);
 }
 
-// The bytes of a slot with no parent.
-fn slot_bytes(symbol: usize, production: usize, first: usize, next: usize, tag: usize) -> [u8; 16]
-    requires { (symbol < 256) × (production < 256) }
-    ensures { result ≡ slot_bytes symbol production 0 first next tag }
+// The bytes of a node's slot with no parent.
+fn slot_bytes(node: Node, first: u16, next: u16) -> [u8; SLOT_SIZE]
+    ensures { result ≡ slot_bytes node.symbol node.production 0 first next node.tag }
 {
+    let [first, first_high] = first.to_le_bytes();
+    let [next, next_high] = next.to_le_bytes();
+    let [tag, tag_1, tag_2, tag_3] = node.tag.to_le_bytes();
     [
         NODE_MARK,
         NODE_MARK_END,
-        symbol as u8,
-        production as u8,
+        node.symbol,
+        node.production,
         0,
         0,
-        (first % 256) as u8,
-        (first / 256 % 256) as u8,
-        (next % 256) as u8,
-        (next / 256 % 256) as u8,
-        (tag % 256) as u8,
-        (tag / 256 % 256) as u8,
-        (tag / 256 / 256 % 256) as u8,
-        (tag / 256 / 256 / 256 % 256) as u8,
+        first,
+        first_high,
+        next,
+        next_high,
+        tag,
+        tag_1,
+        tag_2,
+        tag_3,
         0,
         0,
     ]
 }
 
-// Writes slot s, with no parent.
-fn put_slot(
-    area: &mut [u8],
-    s: usize,
-    symbol: usize,
-    production: usize,
-    first: usize,
-    next: usize,
-    tag: usize,
-)
-    requires { (slot_size * s + slot_size ≤ length area.old) × (symbol < 256) × (production < 256) }
-    ensures { Slotted area.old s (slot_bytes symbol production 0 first next tag) area.new }
+// Writes a node's slot, with no parent.
+fn put_slot(area: &mut [u8], node: Node, first: u16, next: u16)
+    requires { slot_size * node.slot + slot_size ≤ length area.old }
+    ensures { Slotted area.old node.slot (slot_bytes node.symbol node.production 0 first next node.tag) area.new }
 {
-    let bytes = slot_bytes(symbol, production, first, next, tag);
-    put_bytes(area, SLOT_SIZE * s, &bytes, SLOT_SIZE);
+    put_bytes(
+        area,
+        SLOT_SIZE * usize::from(node.slot),
+        &slot_bytes(node, first, next),
+    );
 }
 
 // Sets the parent of slot s, and answers its next sibling.
-fn hang(area: &mut [u8], s: usize, parent: usize) -> usize
-    requires { (slot_size * s + slot_size ≤ length area.old) × (parent < 65536) }
-    ensures { (area.new ≡ put16 area.old (slot_size * s + parent_place) parent) × (result ≡ get16 area.new (slot_size * s + next_place)) × (result < 65536) }
+fn hang(area: &mut [u8], s: u16, parent: u16) -> u16
+    requires { slot_size * s + slot_size ≤ length area.old }
+    ensures { (area.new ≡ put16 area.old (slot_size * s + parent_place) parent) × (result ≡ get16 area.new (slot_size * s + next_place)) }
 {
-    base::put_two(area, SLOT_SIZE * s + PARENT_PLACE, parent);
-    base::two(area, SLOT_SIZE * s + NEXT_PLACE)
+    let at = SLOT_SIZE * usize::from(s);
+    base::put_two(area, at + PARENT_PLACE, usize::from(parent));
+    base::two(area, at + NEXT_PLACE) as u16
 }
 
 // Sets the parent of k trees, the first one at `head`, cuts the last one from the tree behind it, and answers that tree's slot.
-fn adopt(area: &mut [u8], parent: usize, head: usize, k: usize) -> usize
-    requires { (parent < 65536) × (0 < k) × Reach area.old (k - 1) head }
-    ensures { ((area.new ≡ (adopted parent (k - 1) area.old head).bytes) × (result ≡ (adopted parent (k - 1) area.old head).next)) × (result < 65536) }
+fn adopt(area: &mut [u8], parent: u16, head: u16, k: usize) -> u16
+    requires { (0 < k) × Reach area.old (k - 1) head }
+    ensures { (area.new ≡ (adopted parent (k - 1) area.old head).bytes) × (result ≡ (adopted parent (k - 1) area.old head).next) }
 {
     let mut s = head;
-    let mut more = k - 1;
-    while 0 < more {
+    for _ in 1..k {
         s = hang(area, s, parent);
-        more -= 1;
     }
     let next = hang(area, s, parent);
-    base::put_two(area, SLOT_SIZE * s + NEXT_PLACE, 0);
+    base::put_two(area, SLOT_SIZE * usize::from(s) + NEXT_PLACE, 0);
     next
 }
 
-// Lays out node i before the trees that stand in the area, the first one at `head`, and answers its slot.
-fn lay_node(nodes: &[u8], i: usize, rows: &[u8], head: usize, area: &mut [u8]) -> usize
-    requires { (node_size * i + node_size ≤ length nodes.now) × (slot_size * (node_at nodes.now i).slot + slot_size ≤ length area.old) × Ready (arity_in rows.now) (node_at nodes.now i) head area.old }
-    ensures { Lays (arity_in rows.now) (node_at nodes.now i) head area.old result area.new }
+// Lays out a node before the trees that stand in the area, the first one at `head`.
+fn lay_node(node: Node, rows: &[u8], head: u16, area: &mut [u8])
+    requires { (slot_size * node.slot + slot_size ≤ length area.old) × Ready (arity_in rows.now) node head area.old }
+    ensures { Lays (arity_in rows.now) node head area.old area.new }
 {
-    let at = NODE_SIZE * i;
-    let symbol = base::wide(nodes[at]);
-    let production = base::wide(nodes[at + 1]);
-    let s = base::two(nodes, at + 2);
-    if production == 0 {
-        put_slot(area, s, symbol, 0, 0, head, base::four(nodes, at + 4));
-        return s;
+    if node.production == 0 {
+        put_slot(area, node, 0, head);
+        return;
     }
-    let k = grammar::length_at(rows, production - 1);
+    let inner = Node { tag: 0, ..node };
+    let k = grammar::length_at(rows, usize::from(node.production) - 1);
     if k == 0 {
-        put_slot(area, s, symbol, production, 0, head, 0);
-        return s;
+        put_slot(area, inner, 0, head);
+        return;
     }
-    let next = adopt(area, s, head, k);
-    put_slot(area, s, symbol, production, head, next, 0);
-    s
+    let next = adopt(area, node.slot, head, k);
+    put_slot(area, inner, head, next);
 }
 
-// 1 for a leaf, else 0.
-fn token(nodes: &[u8], i: usize) -> usize
-    requires { node_size * i + node_size ≤ length nodes.now }
-    ensures { (result ≡ leaf_of (node_at nodes.now i).production) × (result ≤ 1) }
-{
-    if nodes[NODE_SIZE * i + 1] == 0 {
-        return 1;
-    }
-    0
-}
-
-fn header_bytes(root: usize, used: usize, tokens: usize) -> [u8; 16]
+fn header_bytes(root: u16, used: u16, tokens: u16) -> [u8; HEADER_SIZE]
     ensures { result ≡ header_bytes root used tokens }
 {
+    let [root, root_high] = root.to_le_bytes();
+    let [used, used_high] = used.to_le_bytes();
+    let [tokens, tokens_high] = tokens.to_le_bytes();
     [
         TREE_MARK,
         TREE_MARK_END,
-        (root % 256) as u8,
-        (root / 256 % 256) as u8,
-        (used % 256) as u8,
-        (used / 256 % 256) as u8,
-        (tokens % 256) as u8,
-        (tokens / 256 % 256) as u8,
+        root,
+        root_high,
+        used,
+        used_high,
+        tokens,
+        tokens_high,
         0,
         0,
         0,
@@ -271,12 +274,11 @@ fn header_bytes(root: usize, used: usize, tokens: usize) -> [u8; 16]
     ]
 }
 
-fn put_header(area: &mut [u8], root: usize, used: usize, tokens: usize)
+fn put_header(area: &mut [u8], root: u16, used: u16, tokens: u16)
     requires { slot_size ≤ length area.old }
     ensures { Slotted area.old 0 (header_bytes root used tokens) area.new }
 {
-    let bytes = header_bytes(root, used, tokens);
-    put_bytes(area, 0, &bytes, SLOT_SIZE);
+    put_bytes(area, 0, &header_bytes(root, used, tokens));
 }
 
 // Writes the whole area of the tree whose n nodes are listed: the last node first, so that a node's children stand before it.
@@ -284,14 +286,14 @@ pub fn lay_out(nodes: &[u8], n: usize, rows: &[u8], slots: usize, area: &mut [u8
     requires { (slots ≤ max_slots) × (n ≤ slots) × (node_size * n ≤ length nodes.now) × (length area.old ≡ area_size slots) × Spread slots (nodes_from nodes.now n 0) × Fed (arity_in rows.now) (nodes_from nodes.now n 0) }
     ensures { Area slots (build (arity_in rows.now) (nodes_from nodes.now n 0)) area.new }
 {
-    base::zero(area);
-    let mut i = n;
+    area.fill(0);
     let mut head = 0;
     let mut tokens = 0;
-    while 0 < i {
-        i -= 1;
-        tokens += token(nodes, i);
-        head = lay_node(nodes, i, rows, head, area);
+    for i in (0..n).rev() {
+        let node = node_in(nodes, i);
+        lay_node(node, rows, head, area);
+        head = node.slot;
+        tokens += u16::from(node.production == 0);
     }
-    put_header(area, head, n, tokens);
+    put_header(area, head, n as u16, tokens);
 }

@@ -1,13 +1,7 @@
-use Rattle.sentences.specs.Adding.{token_put}
-use Rattle.std.proofs.Common.{arith}
-use borrow.Author.Rules.{rules}
+use Rattle.std.proofs.Common.{◌∙◌, arith}
+use Rattle.base.specs.Bytes.{length_le}
+use Rattle.sentences.specs.Adding.{copied_part}
 use Rattle.sentences.proofs.put_token.Goals as goal
 
-pub put_two-requires : goal.put_two-requires
-put_two-requires c = (search rules, omega arith)
-
-pub put_two-requires-2 : goal.put_two-requires-2
-put_two-requires-2 c = (search rules, omega arith)
-
 pub returns : goal.returns
-returns c = search (token_put, rules)
+returns c = copied_part _ _ _ _ _ (c.copy_from_slice.ensures.after ∙ c.token_bytes.ensures) (omega (arith, length_le 4 c.args.leaf.tag)) (omega arith)

@@ -1,12 +1,10 @@
-use Rattle.std.proofs.Common.{ap}
-use Rattle.trees.specs.Nodes.{Node}
 use Rattle.trees.specs.Listing.{node_out}
 use Rattle.trees.specs.Coded.{node_at}
 use borrow.Author.Rules.{rules}
-use Rattle.trees.proofs.production_of.Goals as goal
+use Rattle.trees.proofs.node_at.Goals as goal
 
 pub returns-then-nodes-i : goal.returns-then-nodes-i
-returns-then-nodes-i c = (ap (λ (e : Node). e.production) (node_out _ _ (search rules)), search rules)
+returns-then-nodes-i c = node_out _ _ (search rules)
 
 pub returns : goal.returns
 unfolding node_at
