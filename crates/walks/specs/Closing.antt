@@ -1,5 +1,5 @@
 -- After the walk: whether the header says what was found, whether the other slots are zero, and what the reader then answers.
-use Rattle.std.specs.Prelude.{ℕ, ◌+◌, ◌-◌, ◌*◌, ◌≤◌, ◌<◌, Bool, true, false, ◌≡◌, refl, List, take, drop}
+use Rattle.std.specs.Prelude.{ℕ, ◌+◌, ◌-◌, ◌*◌, ◌≤◌, ◌<◌, Bool, true, false, ◌≡◌, refl, List, take, drop, Option, Some, None}
 use Rattle.std.proofs.Common.{sym, ap, ◌∙◌, get_or-take, get_or-drop, take-add, drop_at, length-take-le, ⊎_elim, arith, below_more}
 use Rattle.std.proofs.Math.ListN.{length, length-take, length-drop}
 use Rattle.std.proofs.Math.Logic.{by_cases}
@@ -17,8 +17,6 @@ use Rattle.trees.specs.Area.{root_place, used_place, tokens_place, slot_size, ma
 use Rattle.trees.specs.Nodes.{preorder, size_preorder}
 use Rattle.trees.specs.Coded.{nodes_from, length_nodes}
 use Rattle.trees.specs.Slots.{slot_byte, slot_is}
-use Rattle.walks.specs.declared.Walked.{Walked}
-use Rattle.walks.specs.declared.Walked.TheVariants.{Tree, NoTree}
 use Rattle.walks.specs.declared.Course.{Course}
 use Rattle.walks.specs.declared.Course.TheVariants.{Through, Astray}
 use Rattle.walks.specs.Slots.{Known, sixteen}
@@ -229,13 +227,13 @@ clear_run {m} {s} b h k =
 -- ---- the answer
 
 -- the tree of the first nodes of w, or no valid tree
-pub data Reads (G : Grammar) (S : ℕ) (b w : List ℕ) : Walked → Type 0 where
-  tree : {n : ℕ} (v : Valid G S b) → preorder v.tree ≡ nodes_from w n 0 → n ≡ size v.tree → Reads G S b w (Tree n)
-  none : (Valid G S b → ⊥) → Reads G S b w NoTree
+pub data Reads (G : Grammar) (S : ℕ) (b w : List ℕ) : Option ℕ → Type 0 where
+  tree : {n : ℕ} (v : Valid G S b) → preorder v.tree ≡ nodes_from w n 0 → n ≡ size v.tree → Reads G S b w (Some n)
+  none : (Valid G S b → ⊥) → Reads G S b w None
 
 module _ {rows : List ℕ} {head : Head} {S : ℕ} {b w : List ℕ} where
   -- the walk went astray
-  pub reads_astray : {r : Course} → Wandered rows head S b w r → r ≡ Astray → Reads (grammar_in rows head) S b w NoTree
+  pub reads_astray : {r : Course} → Wandered rows head S b w r → r ≡ Astray → Reads (grammar_in rows head) S b w None
   reads_astray (Wandered.through l h) e = never (cc)
   reads_astray (Wandered.astray h) e = Reads.none (λ v. h.no (preorder v.tree) (valid_found v).walks (valid_found v).once (valid_few v))
 
@@ -261,19 +259,19 @@ module _ {rows : List ℕ} {head : Head} {S : ℕ} {b w : List ℕ} where
     same : (v : Valid (grammar_in rows head) S b) → preorder v.tree ≡ nodes_from w i 0
     same v = going_one (nodes_from w i 0) (preorder v.tree) ended.going (valid_found v).walks
 
-    pub reads_header : (Heads b i leaves → ⊥) → Reads (grammar_in rows head) S b w NoTree
+    pub reads_header : (Heads b i leaves → ⊥) → Reads (grammar_in rows head) S b w None
     reads_header k =
         Reads.none (λ v. let q = same v in
         let o : slot_at b 0 ≡ header_bytes (get16 b root_place) (length (nodes_from w i 0)) (leaf_count (nodes_from w i 0)) = rw q at (valid_found v).header in
         k (record { is = rw (← length_nodes w i 0, ended.counted) o }))
 
-    pub reads_spoilt : (m : List ℕ) → m ≡ marks_in S w → (ClearTo b m (S + 1) → ⊥) → Reads (grammar_in rows head) S b w NoTree
+    pub reads_spoilt : (m : List ℕ) → m ≡ marks_in S w → (ClearTo b m (S + 1) → ⊥) → Reads (grammar_in rows head) S b w None
     reads_spoilt m q k =
         let k' : ClearTo b (marks_in S w) (S + 1) → ⊥ = rw q at k in
         Reads.none (λ v. let f : Free S b (nodes_from w i 0) = rw (same v) at (valid_found v).free in
         k' (record { each = λ x a c. record { zero = λ z. f.zero x a (omega arith) (λ y. omega (arith, z, ended.marked.marked x y)) } }))
 
-    pub reads_tree : 1 ≤ S → S ≤ max_slots → length b ≡ area_size S → Heads b i leaves → (m : List ℕ) → m ≡ marks_in S w → ClearTo b m (S + 1) → Reads (grammar_in rows head) S b w (Tree i)
+    pub reads_tree : 1 ≤ S → S ≤ max_slots → length b ≡ area_size S → Heads b i leaves → (m : List ℕ) → m ≡ marks_in S w → ClearTo b m (S + 1) → Reads (grammar_in rows head) S b w (Some i)
     reads_tree o few long hd m e h =
         let cl : ClearTo b (marks_in S w) (S + 1) = rw e at h in
         let es = nodes_from w i 0 in
