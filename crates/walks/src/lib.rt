@@ -291,8 +291,7 @@ fn walk(area: &[u8], slots: usize, rows: &[u8], head: Head, w: &mut [u8]) -> Cou
     requires { (slots ≤ max_slots) × (length area.now ≡ area_size slots) × (walk_size slots ≤ length w.old) × (head.start < symbol_space) }
     ensures { Wandered rows.now head slots area.now w.new result }
 {
-    let mut words = [0usize; words::WORDS];
-    words::fill_words(rows, head.count, &mut words);
+    let words = words::words_of(rows, head.count);
     wander(area, slots, rows, &words, head, w)
 }
 
