@@ -1,9 +1,11 @@
 -- After the walk: whether the header says what was found, whether the other slots are zero, and what the reader then answers.
-use Rattle.std.specs.Prelude.{ℕ, ◌+◌, ◌-◌, ◌*◌, ◌≤◌, ◌<◌, Bool, true, false, ◌≡◌, refl, List, take, drop}
-use Rattle.std.proofs.Common.{sym, ap, ◌∙◌, get_or-take, get_or-drop, take-add, drop_at, length-take-le, ⊎_elim, arith, below_more}
+use Rattle.std.specs.Prelude.{ℕ, ◌+◌, ◌-◌, ◌*◌, ◌≤◌, ◌<◌, Bool, true, false, ◌≡◌, refl, List, take, drop, replicate, Option, Some, None, MatchOption}
+use Rattle.std.proofs.Common.{sym, ap, ◌∙◌, get_or-take, get_or-drop, take-add, drop_at, length-take-le, ⊎_elim, arith, below_more, ext_get_or}
 use Rattle.std.proofs.Math.ListN.{length, length-take, length-drop}
 use Rattle.std.proofs.Math.Logic.{by_cases}
 use Rattle.std.proofs.Math.Decide.{ℕ_discrete}
+use Rattle.std.specs.Bool.{then_some}
+use Rattle.std.proofs.lemmas.List.{get_or-replicate, length-replicate}
 use Rattle.base.specs.Choose.{never}
 use Rattle.base.specs.Tells.{Tells, tells_yes, tells_no}
 use Rattle.base.specs.Bytes.{byte_at, get16, get32, le_bytes}
@@ -17,8 +19,6 @@ use Rattle.trees.specs.Area.{root_place, used_place, tokens_place, slot_size, ma
 use Rattle.trees.specs.Nodes.{preorder, size_preorder}
 use Rattle.trees.specs.Coded.{nodes_from, length_nodes}
 use Rattle.trees.specs.Slots.{slot_byte, slot_is}
-use Rattle.walks.specs.declared.Walked.{Walked}
-use Rattle.walks.specs.declared.Walked.TheVariants.{Tree, NoTree}
 use Rattle.walks.specs.declared.Course.{Course}
 use Rattle.walks.specs.declared.Course.TheVariants.{Through, Astray}
 use Rattle.walks.specs.Slots.{Known, sixteen}
@@ -134,55 +134,31 @@ free_run = 16
 pub record VisitedFrom (m : List ℕ) (s n : ℕ) : Type 0 where
   pub each : (d : ℕ) → d < n → byte_at m (s + d) ≡ 1
 
-module _ (m : List ℕ) (s : ℕ) where
-  pub visited_none : VisitedFrom m s 0
-  visited_none = record { each = λ d o. absurd (omega arith) }
+pub visited_four : (m : List ℕ) (s u : ℕ) → Known m → u ≡ get32 m s → u ≡ 0x01010101 → VisitedFrom m s 4
+visited_four m s u k e o =
+    let a0 = k.small s in
+    let a1 = k.small (s + 1) in
+    let a2 = k.small (s + 2) in
+    let a3 = k.small (s + 3) in
+    let P : ℕ → Type 0 = λ d. byte_at m (s + d) ≡ 1 in
+    let q : s + 0 ≡ s = omega arith in
+    let p0 : P 0 = rw q (omega (arith, e, o)) in
+    record { each = below_more P 3 (below_more P 2 (below_more P 1 (below_more P 0 (λ i w. absurd (omega arith)) p0) (omega (arith, e, o))) (omega (arith, e, o))) (omega (arith, e, o)) }
 
-  pub visited_four : (u : ℕ) → Known m → u ≡ get32 m s → u ≡ 0x01010101 → VisitedFrom m s 4
-  visited_four u k e o =
-      let a0 = k.small s in
-      let a1 = k.small (s + 1) in
-      let a2 = k.small (s + 2) in
-      let a3 = k.small (s + 3) in
-      let P : ℕ → Type 0 = λ d. byte_at m (s + d) ≡ 1 in
-      let q : s + 0 ≡ s = omega arith in
-      let p0 : P 0 = rw q (omega (arith, e, o)) in
-      record { each = below_more P 3 (below_more P 2 (below_more P 1 (below_more P 0 (λ i w. absurd (omega arith)) p0) (omega (arith, e, o))) (omega (arith, e, o))) (omega (arith, e, o)) }
+-- as the code compares a run of marks with ones
+pub visited_told : (m : List ℕ) (s n : ℕ) (r : Bool) → s + n ≤ length m → Tells (take (s + n - s) (drop s m) ≡ replicate n 1) r → Tells (VisitedFrom m s n) r
+visited_told m s n r l h = record { yes = λ t. record { each = λ d o. sym (part d o) ∙ ap (λ (u : List ℕ). byte_at u d) (h.yes t) ∙ get_or-replicate n d 1 0 o }; no = λ f v. h.no f (same v) }
+  where
+    q : s + n - s ≡ n
+    q = omega arith
 
-pub visited_join : {m : List ℕ} {s n r : ℕ} → VisitedFrom m s n → VisitedFrom m (s + n) r → VisitedFrom m s (n + r)
-visited_join {m} {s} {n} h k =
-    record { each = λ d o. ⊎_elim (λ y. h.each d y) (λ y. let q : s + n + (d - n) ≡ s + d = omega arith in rw q at (k.each (d - n) (omega arith))) (below d n) }
+    part : (d : ℕ) → d < n → byte_at (take (s + n - s) (drop s m)) d ≡ byte_at m (s + d)
+    part d o = get_or-take (s + n - s) (drop s m) d 0 (omega arith) ∙ get_or-drop s m d 0
 
--- eight marks at once, and again
-module _ (m : List ℕ) (s : ℕ) where
-  small : Known m → (i : ℕ) → get32 m i < 4294967296
-  small k i = let a0 = k.small i in let a1 = k.small (i + 1) in let a2 = k.small (i + 2) in let a3 = k.small (i + 3) in omega arith
-
-  pub visited_more : (k u : ℕ) → Known m → u ≡ get64 m (s + k) → u ≡ 0x0101010101010101 → VisitedFrom m s k → VisitedFrom m s (k + 8)
-  visited_more k u kn e o h =
-      let q = get64_two m (s + k) (get32 m (s + k)) (get32 m (s + k + 4)) refl refl in
-      let a = small kn (s + k) in
-      let c = small kn (s + k + 4) in
-      let low = visited_four m (s + k) (get32 m (s + k)) kn refl (omega arith) in
-      let high = visited_four m (s + k + 4) (get32 m (s + k + 4)) kn refl (omega arith) in
-      visited_join h (visited_join low high)
-
-  pub visited_all : (n k : ℕ) → n ≤ k → VisitedFrom m s k → Tells (VisitedFrom m s n) true
-  visited_all n k l h = tells_yes (record { each = λ d o. h.each d (omega arith) })
-
-  pub visited_not : (n k u : ℕ) → k + 8 ≤ n → u ≡ get64 m (s + k) → (u ≡ 0x0101010101010101 → ⊥) → Tells (VisitedFrom m s n) false
-  visited_not n k u l e o =
-      tells_no (λ h. let at : (j i : ℕ) → j < 8 → i ≡ s + (k + j) → byte_at m i ≡ 1 = λ j i w q. ap (byte_at m) q ∙ h.each (k + j) (omega arith) in
-      let b0 = at 0 (s + k) (omega arith) (omega arith) in
-      let b1 = at 1 (s + k + 1) (omega arith) (omega arith) in
-      let b2 = at 2 (s + k + 2) (omega arith) (omega arith) in
-      let b3 = at 3 (s + k + 3) (omega arith) (omega arith) in
-      let b4 = at 4 (s + k + 4) (omega arith) (omega arith) in
-      let b5 = at 5 (s + k + 4 + 1) (omega arith) (omega arith) in
-      let b6 = at 6 (s + k + 4 + 2) (omega arith) (omega arith) in
-      let b7 = at 7 (s + k + 4 + 3) (omega arith) (omega arith) in
-      let q = get64_two m (s + k) (get32 m (s + k)) (get32 m (s + k + 4)) refl refl in
-      o (omega (arith, e, q)))
+    same : VisitedFrom m s n → take (s + n - s) (drop s m) ≡ replicate n 1
+    same v =
+        let e : length (take (s + n - s) (drop s m)) ≡ length (replicate n 1) = length-take (s + n - s) (drop s m) ∙ omega (arith, length-drop s m, length-replicate {A = ℕ} n 1) in
+        ext_get_or 0 (take (s + n - s) (drop s m)) (replicate n 1) e (λ d o. let w : d < n = omega (arith, o, length-take (s + n - s) (drop s m)) in part d w ∙ v.each d w ∙ sym (get_or-replicate n d 1 0 w))
 
 -- the r slots from s on are slots of the area, and clear
 pub record Run (b m : List ℕ) (s S r : ℕ) : Type 0 where
@@ -190,8 +166,10 @@ pub record Run (b m : List ℕ) (s S r : ℕ) : Type 0 where
   pub clear : (d : ℕ) → d < r → Clear b m (s + d)
 
 module _ (b m : List ℕ) where
-  pub run_none : (s S : ℕ) → s ≤ S → Run b m s S 0
-  run_none s S l = record { few = omega arith; clear = λ d o. absurd (omega arith) }
+  -- slot s alone
+  pub run_one : (s S : ℕ) (u : Bool) → s ≤ S → Tells (Clear b m s) u → MatchOption (then_some u 1) (Clear b m s → ⊥) (λ r. (0 < r) × Run b m s S r)
+  run_one s S true l h = (omega arith, record { few = omega arith; clear = λ d o. let e : s + d ≡ s = omega arith in rw e (h.yes refl) })
+  run_one s S false l h = h.no refl
 
   -- the slots that were visited
   pub run_visited : (s S r : ℕ) → s + r ≤ S + 1 → VisitedFrom m s r → Run b m s S r
@@ -229,13 +207,13 @@ clear_run {m} {s} b h k =
 -- ---- the answer
 
 -- the tree of the first nodes of w, or no valid tree
-pub data Reads (G : Grammar) (S : ℕ) (b w : List ℕ) : Walked → Type 0 where
-  tree : {n : ℕ} (v : Valid G S b) → preorder v.tree ≡ nodes_from w n 0 → n ≡ size v.tree → Reads G S b w (Tree n)
-  none : (Valid G S b → ⊥) → Reads G S b w NoTree
+pub data Reads (G : Grammar) (S : ℕ) (b w : List ℕ) : Option ℕ → Type 0 where
+  tree : {n : ℕ} (v : Valid G S b) → preorder v.tree ≡ nodes_from w n 0 → n ≡ size v.tree → Reads G S b w (Some n)
+  none : (Valid G S b → ⊥) → Reads G S b w None
 
 module _ {rows : List ℕ} {head : Head} {S : ℕ} {b w : List ℕ} where
   -- the walk went astray
-  pub reads_astray : {r : Course} → Wandered rows head S b w r → r ≡ Astray → Reads (grammar_in rows head) S b w NoTree
+  pub reads_astray : {r : Course} → Wandered rows head S b w r → r ≡ Astray → Reads (grammar_in rows head) S b w None
   reads_astray (Wandered.through l h) e = never (cc)
   reads_astray (Wandered.astray h) e = Reads.none (λ v. h.no (preorder v.tree) (valid_found v).walks (valid_found v).once (valid_few v))
 
@@ -261,19 +239,19 @@ module _ {rows : List ℕ} {head : Head} {S : ℕ} {b w : List ℕ} where
     same : (v : Valid (grammar_in rows head) S b) → preorder v.tree ≡ nodes_from w i 0
     same v = going_one (nodes_from w i 0) (preorder v.tree) ended.going (valid_found v).walks
 
-    pub reads_header : (Heads b i leaves → ⊥) → Reads (grammar_in rows head) S b w NoTree
+    pub reads_header : (Heads b i leaves → ⊥) → Reads (grammar_in rows head) S b w None
     reads_header k =
         Reads.none (λ v. let q = same v in
         let o : slot_at b 0 ≡ header_bytes (get16 b root_place) (length (nodes_from w i 0)) (leaf_count (nodes_from w i 0)) = rw q at (valid_found v).header in
         k (record { is = rw (← length_nodes w i 0, ended.counted) o }))
 
-    pub reads_spoilt : (m : List ℕ) → m ≡ marks_in S w → (ClearTo b m (S + 1) → ⊥) → Reads (grammar_in rows head) S b w NoTree
+    pub reads_spoilt : (m : List ℕ) → m ≡ marks_in S w → (ClearTo b m (S + 1) → ⊥) → Reads (grammar_in rows head) S b w None
     reads_spoilt m q k =
         let k' : ClearTo b (marks_in S w) (S + 1) → ⊥ = rw q at k in
         Reads.none (λ v. let f : Free S b (nodes_from w i 0) = rw (same v) at (valid_found v).free in
         k' (record { each = λ x a c. record { zero = λ z. f.zero x a (omega arith) (λ y. omega (arith, z, ended.marked.marked x y)) } }))
 
-    pub reads_tree : 1 ≤ S → S ≤ max_slots → length b ≡ area_size S → Heads b i leaves → (m : List ℕ) → m ≡ marks_in S w → ClearTo b m (S + 1) → Reads (grammar_in rows head) S b w (Tree i)
+    pub reads_tree : 1 ≤ S → S ≤ max_slots → length b ≡ area_size S → Heads b i leaves → (m : List ℕ) → m ≡ marks_in S w → ClearTo b m (S + 1) → Reads (grammar_in rows head) S b w (Some i)
     reads_tree o few long hd m e h =
         let cl : ClearTo b (marks_in S w) (S + 1) = rw e at h in
         let es = nodes_from w i 0 in

@@ -38,13 +38,6 @@ pub const WALK_SIZE: usize = trees::NODE_SIZE * trees::MAX_SLOTS
 // A used slot's mark as a two-byte number.
 const NODE_MARKS: usize = 0x444E;
 
-// The area is the tree of so many nodes, or it is no valid tree.
-#[derive(Clone, Copy)]
-pub enum Walked {
-    Tree(usize),
-    NoTree,
-}
-
 // A node is a leaf, or its children must have the symbols of this body, or there is no such node.
 #[derive(Clone, Copy)]
 enum Kids {
@@ -298,24 +291,29 @@ fn walk(area: &[u8], slots: usize, rows: &[u8], head: Head, w: &mut [u8]) -> Cou
     requires { (slots ≤ max_slots) × (length area.now ≡ area_size slots) × (walk_size slots ≤ length w.old) × (head.start < symbol_space) }
     ensures { Wandered rows.now head slots area.now w.new result }
 {
-    let mut words = [0usize; words::WORDS];
-    words::fill_words(rows, head.count, &mut words);
+    let words = words::words_of(rows, head.count);
     wander(area, slots, rows, &words, head, w)
 }
 
-// Walks an area of whatever bytes back into the list of its nodes, at the beginning of `work`, or finds that it is no valid tree of the grammar in the rows.
-pub fn read_tree(area: &[u8], slots: usize, rows: &[u8], head: Head, work: &mut [u8]) -> Walked
+// Walks an area of whatever bytes back into the list of its nodes, at the beginning of `work`, and counts them, or finds that it is no valid tree of the grammar in the rows.
+pub fn read_tree(
+    area: &[u8],
+    slots: usize,
+    rows: &[u8],
+    head: Head,
+    work: &mut [u8],
+) -> Option<usize>
     requires { (1 ≤ slots) × (slots ≤ max_slots) × (length area.now ≡ area_size slots) × (walk_size slots ≤ length work.old) × (head.start < symbol_space) }
     ensures { Reads (grammar_in rows.now head) slots area.now work.new result }
 {
     let Course::Through(nodes, leaves) = walk(area, slots, rows, head, work) else {
-        return Walked::NoTree;
+        return None;
     };
     if closing::heads(area, nodes, leaves) {
         let from = marks_at(slots);
         if closing::all_clear(area, &work[from..from + slots + 1], slots) {
-            return Walked::Tree(nodes);
+            return Some(nodes);
         }
     }
-    Walked::NoTree
+    None
 }

@@ -1,10 +1,9 @@
 // A production as one number, its left side and its body.
-ghost use Rattle.std.specs.Prelude.{◌≡◌, ◌∷◌, length};
-ghost use Rattle.base.specs.Blocks.{zeros};
+ghost use Rattle.std.specs.Prelude.{◌∷◌};
 ghost use Rattle.grammar.specs.Rows.{left_at};
 ghost use Rattle.grammar.specs.RowRules.{body_at};
 ghost use Rattle.walks.specs.Digits.{Digits};
-ghost use Rattle.walks.specs.Words.{word_count, Worded};
+ghost use Rattle.walks.specs.Words.{Worded};
 
 // A word for each number that a slot's byte may name as its production.
 pub const WORDS: usize = 256;
@@ -19,25 +18,19 @@ fn word_of(rows: &[u8], q: usize) -> usize
     ensures { Digits (left_at rows.now q ∷ body_at rows.now q) result }
 {
     let mut v: usize = 0;
-    let mut j = grammar::length_at(rows, q);
-    while 0 < j {
-        j -= 1;
+    for j in (0..grammar::length_at(rows, q)).rev() {
         v = BASE * v + DIGIT + grammar::symbol_at(rows, q, j);
     }
     BASE * v + DIGIT + grammar::left_at(rows, q)
 }
 
-// The words of the productions, each at its number; the others stay 0.
-pub fn fill_words(rows: &[u8], count: usize, words: &mut [usize])
-    requires { (length words.old ≡ word_count) × (words.old ≡ zeros word_count) }
-    ensures { Worded rows.now count words.new }
+// The words of the productions, each at its number; the others are 0.
+pub fn words_of(rows: &[u8], count: usize) -> [usize; WORDS]
+    ensures { Worded rows.now count result }
 {
-    let mut q: usize = 0;
-    while q < count {
-        if WORDS - 1 <= q {
-            return;
-        }
+    let mut words = [0; WORDS];
+    for q in 0..count.min(WORDS - 1) {
         words[q + 1] = word_of(rows, q);
-        q += 1;
     }
+    words
 }
