@@ -1,5 +1,5 @@
 -- The first of the lent tokens, copied behind the room for the nodes: the parse there ends as one of all of them does.
-use Rattle.std.specs.Prelude.{ℕ, zero, suc, ◌+◌, ◌-◌, ◌*◌, ◌≤◌, ◌<◌, min, ◌≡◌, refl, List, ◌++◌, length, take, drop}
+use Rattle.std.specs.Prelude.{ℕ, zero, suc, ◌+◌, ◌-◌, ◌*◌, ◌≤◌, ◌<◌, min, ◌≡◌, refl, Result, Ok, Err, List, ◌++◌, length, take, drop}
 use Rattle.std.proofs.Common.{ap, ◌∙◌, append_assoc, take_at, drop_at, get_or-take, length-take-le, arith}
 use Rattle.std.proofs.Math.Seq.{take-length}
 use Rattle.base.specs.Bytes.{byte_at}
@@ -7,12 +7,12 @@ use Rattle.base.specs.Blocks.{copied}
 use Rattle.grammar.specs.Rows.{grammar_in}
 use Rattle.grammar.specs.declared.Head.{Head}
 use Rattle.trees.specs.Coded.{node_size}
-use Rattle.plain.specs.Plain.{accepted, syntax, out_of_room, Parses}
+use Rattle.plain.specs.Plain.{accepted, Parses}
 use Rattle.plain.specs.Tokens.{token_size, token_at, tokens_from}
 use Rattle.plain.specs.Machine.{Ground}
 use Rattle.plain.specs.Text.{text_in}
-use Rattle.plain.specs.Outcome.{Ran, ran_done, ran_wrong, ran_full}
-use Rattle.plain.specs.declared.Parsed.{Parsed}
+use Rattle.plain.specs.Outcome.{Ran, verdict_of}
+use Rattle.plain.specs.declared.ParseError.{ParseError}
 use Rattle.edits.specs.Cut.{cut_run, cut_accepted}
 
 text_copied : (S m : ℕ) (w src : List ℕ) → node_size * S + token_size * m ≤ length w → length src ≡ token_size * m → text_in S m (copied w (node_size * S) src) ≡ src
@@ -44,15 +44,12 @@ tokens_front b b' (suc k) (suc m) (suc r) i e h =
 
 -- the first r of m lent tokens stand in w'
 module _ (rows : List ℕ) (head : Head) (table b : List ℕ) (m : ℕ) (g : Ground rows head table b m) (S r : ℕ) (w w' : List ℕ) (e : r ≡ min m (S + 1))
-    (room : node_size * S + token_size * (S + 1) ≤ length w) (c : w' ≡ copied w (node_size * S) (take (token_size * r - 0) (drop 0 b))) where
+    (room : node_size * S + token_size * (S + 1) ≤ length w) (c : w' ≡ copied w (node_size * S) (take (token_size * r) b)) where
   front_long : length (take (token_size * r) b) ≡ token_size * r
   front_long = length-take-le (token_size * r) b (omega (arith, e, g.long))
 
   is_front : text_in S r w' ≡ take (token_size * r) b
-  is_front =
-      let z : token_size * r - 0 ≡ token_size * r = omega arith in
-      let q : w' ≡ copied w (node_size * S) (take (token_size * r) b) = rw z at c in
-      rw q (text_copied S r w (take (token_size * r) b) (omega (arith, e, room)) front_long)
+  is_front = rw c (text_copied S r w (take (token_size * r) b) (omega (arith, e, room)) front_long)
 
   front_byte : (j : ℕ) → j < token_size * r → byte_at (text_in S r w') j ≡ byte_at b j
   front_byte j l = rw is_front (get_or-take (token_size * r) b j 0 l)
@@ -71,14 +68,13 @@ module _ (rows : List ℕ) (head : Head) (table b : List ℕ) (m : ℕ) (g : Gro
   are_front = tokens_front b (text_in S r w') (suc S) m r 0 (omega (arith, e)) (λ j l. front_byte j (omega arith))
 
   -- and what it says of them all
-  pub ran_front : {v : List ℕ} {x : Parsed} → 1 ≤ S → Ran (grammar_in rows head) S (text_in S r w') r v x → Ran (grammar_in rows head) S b m v x
-  ran_front l (ran_done {o = o} d) =
+  pub ran_front : (v : List ℕ) (x : Result ℕ ParseError) → 1 ≤ S → Ran (grammar_in rows head) S (text_in S r w') r v x → Ran (grammar_in rows head) S b m v x
+  ran_front v (Ok o) l d =
       let p : Parses (grammar_in rows head) S (take (suc S) (tokens_from b m 0)) (accepted o) = rw are_front at d.parses in
-      ran_done (record {
+      record {
         parses = cut_run (tokens_from b m 0) (accepted o) l p;
         lists = d.lists;
         leaves = d.leaves ∙ are_front ∙ cut_accepted (tokens_from b m 0) o l p;
         numbered = d.numbered;
-      })
-  ran_front l (ran_wrong {k = k} {e = y} h) = ran_wrong (cut_run (tokens_from b m 0) (syntax k y) l (rw are_front at h))
-  ran_front l (ran_full h) = ran_full (cut_run (tokens_from b m 0) out_of_room l (rw are_front at h))
+      }
+  ran_front v (Err e) l h = cut_run (tokens_from b m 0) (verdict_of e) l (rw are_front at h)

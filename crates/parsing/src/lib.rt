@@ -9,7 +9,7 @@ ghost use Rattle.plain.specs.Machine.{Ground};
 ghost use Rattle.plain.specs.Outcome.{Ran};
 
 use grammar::Head;
-use plain::Parsed;
+use plain::ParseError;
 
 // The plain parse of m good tokens into so many slots. The nodes stand at the beginning of `work`.
 pub fn parse_lent(
@@ -20,15 +20,15 @@ pub fn parse_lent(
     head: Head,
     slots: usize,
     work: &mut [u8],
-) -> Parsed
+) -> Result<usize, ParseError>
     requires { Ground rows.now head tables.now tokens.now m × (1 ≤ slots) × (slots ≤ max_slots) × (parse_size slots (slots + 1) ≤ length work.old) }
     ensures { Ran (grammar_in rows.now head) slots tokens.now m work.new result }
 {
-    let r = base::least(m, slots + 1);
+    let r = m.min(slots + 1);
     base::copy(
         work,
         trees::NODE_SIZE * slots,
-        &tokens[0..plain::TOKEN_SIZE * r],
+        &tokens[..plain::TOKEN_SIZE * r],
     );
     plain::parse(r, tables, rows, head, slots, work)
 }

@@ -14,48 +14,42 @@ use grammar::Head;
 
 pub const TOKEN_SIZE: usize = 5;
 
-// How many tokens there are, or the first bad record.
-#[derive(Clone, Copy)]
-pub enum Tokens {
-    Good(usize),
-    Bad(usize),
+// The first bad token record, counted from 0.
+#[derive(Clone, Copy, Debug, PartialEq, Eq)]
+pub struct BadToken {
+    pub number: usize,
 }
 
-// How a parse ends: accepted with so many nodes, a syntax error at a token with the expected set, or no room.
-#[derive(Clone, Copy)]
-pub enum Parsed {
-    Accepted(usize),
+// Why a parse accepts nothing: a syntax error at a token with the expected set, or no room.
+#[derive(Clone, Copy, Debug, PartialEq, Eq)]
+pub enum ParseError {
     Syntax(usize, u32),
     NoRoom,
 }
 
-// One symbol is taken off: the parse goes on at a place of the stack and a token, or it is over.
+// Where a parse goes on: the top of the stack, and the next token.
 #[derive(Clone, Copy)]
-pub enum Turn {
-    Go(usize, usize),
-    Over(Parsed),
+struct Turn {
+    top: usize,
+    token: usize,
 }
 
-// Whether the bytes are tokens of the kinds 1..t.
-pub fn read_tokens(tokens: &[u8], t: usize) -> Tokens
+// How many tokens of the kinds 1..t the bytes are.
+pub fn read_tokens(tokens: &[u8], t: usize) -> Result<usize, BadToken>
     ensures { Told t tokens.now result }
 {
     let count = tokens.len() / TOKEN_SIZE;
-    let mut i: usize = 0;
-    while i < count {
-        let kind = base::byte_at(tokens, TOKEN_SIZE * i);
-        if kind == 0 {
-            return Tokens::Bad(i);
+    for i in 0..count {
+        let kind = usize::from(tokens[TOKEN_SIZE * i]);
+        if kind == 0 || t < kind {
+            return Err(BadToken { number: i });
         }
-        if t < kind {
-            return Tokens::Bad(i);
-        }
-        i += 1;
     }
     if tokens.len() % TOKEN_SIZE == 0 {
-        return Tokens::Good(count);
+        Ok(count)
+    } else {
+        Err(BadToken { number: count })
     }
-    Tokens::Bad(count)
 }
 
 // The body in row j, `len` symbols, from `at` on.
@@ -106,17 +100,11 @@ fn step(
     o: usize,
     p: usize,
     k: usize,
-) -> Turn
-    requires { Ground rows.now head tables.now (text_in slots m work.old) m × (slots ≤ max_slots) × (parse_size slots m ≤ length work.old) × (o < slots) × (p ≤ length work.old) × (o + (length work.old - p) ≤ slots) × (k ≤ m) × At (grammar_in rows.now head) slots (text_in slots m work.old) m work.old p o k }
-    ensures { Turned (grammar_in rows.now head) slots (text_in slots m work.old) m work.old work.new o result × (text_in slots m work.new ≡ text_in slots m work.old) }
+) -> Result<Turn, ParseError>
+    requires { Ground rows.now head tables.now (text_in slots m work.old) m × (slots ≤ max_slots) × (parse_size slots m ≤ length work.old) × (p < length work.old) × (o + (length work.old - p) ≤ slots) × (k ≤ m) × At (grammar_in rows.now head) slots (text_in slots m work.old) m work.old p o k }
+    ensures turned { Turned (grammar_in rows.now head) slots (text_in slots m work.old) m work.old work.new o result }
+    ensures text { text_in slots m work.new ≡ text_in slots m work.old }
 {
-    let end = work.len();
-    if end <= p {
-        if k == m {
-            return Turn::Over(Parsed::Accepted(o));
-        }
-        return Turn::Over(Parsed::Syntax(k, 1));
-    }
     let x = base::byte_at(work, p);
     let front = trees::NODE_SIZE * slots;
     let back = front + TOKEN_SIZE * m;
@@ -125,22 +113,25 @@ fn step(
         if x == a {
             let tag = base::get32(&work[front..back], TOKEN_SIZE * k + 1);
             trees::put_node(work, o, o + 1, x, 0, tag);
-            return Turn::Go(p + 1, k + 1);
+            return Ok(Turn {
+                top: p + 1,
+                token: k + 1,
+            });
         }
-        return Turn::Over(Parsed::Syntax(k, 1 << x));
+        return Err(ParseError::Syntax(k, 1 << x));
     }
     let q = base::byte_at(tables, (x - head.t - 1) * grammar::COLUMNS + a);
     if q == 0 {
-        return Turn::Over(Parsed::Syntax(k, predicted(tables, x - head.t - 1)));
+        return Err(ParseError::Syntax(k, predicted(tables, x - head.t - 1)));
     }
     let len = grammar::length_at(rows, q - 1);
-    if slots < o + (end - p) + len {
-        return Turn::Over(Parsed::NoRoom);
+    if slots < o + (work.len() - p) + len {
+        return Err(ParseError::NoRoom);
     }
     let top = p + 1 - len;
     push(work, top, rows, q - 1, len);
     trees::put_node(work, o, o + 1, x, q, 0);
-    Turn::Go(top, k)
+    Ok(Turn { top, token: k })
 }
 
 // The start symbol alone on the stack; its place.
@@ -161,29 +152,22 @@ pub fn parse(
     head: Head,
     slots: usize,
     work: &mut [u8],
-) -> Parsed
+) -> Result<usize, ParseError>
     requires { Ground rows.now head tables.now (text_in slots m work.old) m × (1 ≤ slots) × (slots ≤ max_slots) × (parse_size slots m ≤ length work.old) }
     ensures { Ran (grammar_in rows.now head) slots (text_in slots m work.old) m work.new result }
 {
     let mut p = begin(work, head.start as u8);
     let mut k: usize = 0;
     let mut o: usize = 0;
-    while o < slots {
-        let i = o;
+    while p < work.len() {
+        let turn = step(m, tables, rows, head, slots, work, o, p, k)?;
+        p = turn.top;
+        k = turn.token;
         o += 1;
-        let r = step(m, tables, rows, head, slots, work, i, p, k);
-        match r {
-            Turn::Go(top, token) => {
-                p = top;
-                k = token;
-            }
-            Turn::Over(v) => {
-                return v;
-            }
-        }
     }
     if k == m {
-        return Parsed::Accepted(o);
+        Ok(o)
+    } else {
+        Err(ParseError::Syntax(k, 1))
     }
-    Parsed::Syntax(k, 1)
 }
