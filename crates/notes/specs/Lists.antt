@@ -24,12 +24,20 @@ matches_of v = matches_in v.slots v.work.now
 abbrev pub marks_of : Notes → List ℕ
 marks_of v = marks_in v.slots v.work.now
 
+-- v is these bytes, with room for trees of S nodes
+pub record Lent (v : Notes) (S : ℕ) (w : List ℕ) : Type 0 where
+  pub slots : v.slots ≡ S
+  pub bytes : v.work.now ≡ w
+
 -- v is the work area u, written or not
 pub record Same (u v : Notes) : Type 0 where
   pub name : v.work.ghost_name ≡ u.work.ghost_name
   pub slots : v.slots ≡ u.slots
 
--- and these are its nodes and notes
+pub same_then : {u v w : Notes} → Same u v → Same v w → Same u w
+same_then e f = record { name = f.name ∙ e.name; slots = f.slots ∙ e.slots }
+
+-- v is that, and these are its nodes and notes
 pub record Viewed (u v : Notes) (ns es ws ss ms : List ℕ) : Type 0 where
   pub same : Same u v
   pub nodes : nodes_of v ≡ ns
@@ -57,4 +65,4 @@ pub spans_set : (u u₁ v : Notes) (x end width : ℕ) → notes_size u.slots �
     → Same u₁ v → v.work.now ≡ put16 u₁.work.now (note_at u₁.slots x + width_place) width → Viewed u v (nodes_of u) (set (ends_of u) x end) (set (widths_of u) x width) (starts_of u) (matches_of u)
 spans_set u u₁ v x end width room l e f g h =
     let z : note_at u.slots x + 0 ≡ note_at u.slots x = omega arith in
-    viewed (record { name = g.name ∙ e.name; slots = g.slots ∙ e.slots }) (span_set u.work.now u.slots room x (note_at u.slots x) end refl u₁.work.now v.work.now width l (rw z at f) (rw e.slots at h))
+    viewed (same_then e g) (span_set u.work.now u.slots room x (note_at u.slots x) end refl u₁.work.now v.work.now width l (rw z at f) (rw e.slots at h))

@@ -53,11 +53,11 @@ pub struct Notes<'a> {
 }
 
 impl<'a> Notes<'a> {
-    ghost use Rattle.notes.specs.Lists.{nodes_of, ends_of, widths_of, starts_of, matches_of, marks_of, Same, Viewed, Seen};
+    ghost use Rattle.notes.specs.Lists.{nodes_of, ends_of, widths_of, starts_of, matches_of, marks_of, Lent, Same, Viewed, Seen};
 
     pub fn new(work: &'a mut [u8], slots: usize) -> Self
         requires { (slots ≤ max_slots) × (notes_size slots ≤ length work.old) }
-        ensures { (result.work.ghost_name ≡ work.entry.ghost_name) × (result.slots ≡ slots) × (result.work.now ≡ work.old) }
+        ensures { (result.work.ghost_name ≡ work.entry.ghost_name) × Lent result slots work.old }
     {
         Notes { work, slots }
     }
