@@ -1,5 +1,5 @@
 -- New nodes get the lowest slots that are not marked: one slot, one node, and the nodes of the new tree one after the other.
-use Rattle.std.specs.Prelude.{ℕ, suc, ◌+◌, ◌-◌, ◌*◌, ◌≤◌, ◌<◌, ◌≡◌, refl, length, get_or}
+use Rattle.std.specs.Prelude.{Option, None, Some, ℕ, suc, ◌+◌, ◌-◌, ◌*◌, ◌≤◌, ◌<◌, ◌≡◌, refl, length, get_or}
 use Rattle.std.proofs.Common.{ap, ◌∙◌, ⊎_elim, arith}
 use Rattle.std.proofs.Math.Logic.{by_cases}
 use mathlib.Core.List.{List, [], ◌∷◌, ◌++◌, Memᴰ, append_assoc, append-nil}
@@ -11,7 +11,7 @@ use Rattle.trees.specs.Members.{each_mem, member}
 use Rattle.trees.specs.Spread.{slots_of, slots_append}
 use Rattle.edits.specs.Keeping.{Given}
 use Rattle.edits.specs.Giving.{held_of, Held, held_in, in_held}
-use Rattle.keeping.specs.Matched.{slot_by, held_from, Fit, slot_kept, held_next}
+use Rattle.keeping.specs.Matched.{slot_by, held_from, Fit, Holds, slot_kept, held_next}
 use Rattle.keeping.specs.Marking.{Marked, Marks}
 
 -- ---- the lowest free slot
@@ -22,51 +22,33 @@ pub record Lowest (m : List ℕ) (S s x : ℕ) : Type 0 where
   pub passed : (y : ℕ) → s ≤ y → y < x → byte_at m y ≡ 0 → ⊥
   pub free : x ≤ S → byte_at m x ≡ 0
 
--- the slots from s on below x are marked
-pub record Passed (m : List ℕ) (s x : ℕ) : Type 0 where
-  pub from : s ≤ x
-  pub passed : (y : ℕ) → s ≤ y → y < x → byte_at m y ≡ 0 → ⊥
-
-pub passed_none : (m : List ℕ) (s : ℕ) → Passed m s s
-passed_none m s = record { from = omega arith; passed = λ y a b. absurd (omega arith) }
-
-pub passed_more : (m : List ℕ) (s x : ℕ) → (byte_at m x ≡ 0 → ⊥) → Passed m s x → Passed m s (x + 1)
-passed_more m s x n h =
-    record { from = omega (arith, h.from); passed = λ y a b. by_cases (dec_lt y x) (λ l. h.passed y a l) (λ l e. let q : y ≡ x = omega arith in n (rw q at e)) }
-
-pub lowest_here : (m : List ℕ) (S s x : ℕ) → byte_at m x ≡ 0 → Passed m s x → Lowest m S s x
-lowest_here m S s x e h = record { from = h.from; passed = h.passed; free = λ l. e }
-
-pub lowest_beyond : (m : List ℕ) (S s x : ℕ) → S < x → Passed m s x → Lowest m S s x
-lowest_beyond m S s x l h = record { from = h.from; passed = h.passed; free = λ k. absurd (omega arith) }
-
 -- ---- one node
 
 -- with the slots from s on still to be had, a node that holds h gets slot x, and then they are to be had from s' on
-pub data Gets (m : List ℕ) (S s : ℕ) : (h x s' : ℕ) → Type 0 where
-  kept : {h : ℕ} → 1 ≤ h → Gets m S s h h s
-  made : {h x s' : ℕ} → h ≡ 0 → Lowest m S s x → s' ≡ x + 1 → Gets m S s h x s'
+pub data Gets (m : List ℕ) (S s : ℕ) : (h : Option ℕ) (x s' : ℕ) → Type 0 where
+  kept : {h : ℕ} → 1 ≤ h → Gets m S s (Some h) h s
+  made : {x s' : ℕ} → Lowest m S s x → s' ≡ x + 1 → Gets m S s None x s'
 
 -- w' is w where node a has got its slot
-pub record Got (m : List ℕ) (S s h : ℕ) (w : List ℕ) (a : ℕ) (w' : List ℕ) (s' : ℕ) : Type 0 where
+pub record Got (m : List ℕ) (S s : ℕ) (h : Option ℕ) (w : List ℕ) (a : ℕ) (w' : List ℕ) (s' : ℕ) : Type 0 where
   pub slot : ℕ
   pub gets : Gets m S s h slot s'
   pub put : Put w a (in_slot slot (node_at w a)) w'
 
-pub got_kept : {m w w' : List ℕ} {S s h a : ℕ} → (h ≡ 0 → ⊥) → Put w a (in_slot h (node_at w a)) w' → Got m S s h w a w' s
-got_kept {h = h} n p = record { slot = h; gets = Gets.kept {h = h} (omega arith); put = p }
+pub got_kept : {m w w' : List ℕ} {S s h a : ℕ} → 1 ≤ h → Put w a (in_slot h (node_at w a)) w' → Got m S s (Some h) w a w' s
+got_kept {h = h} l p = record { slot = h; gets = Gets.kept l; put = p }
 
-pub got_made : {m w w' : List ℕ} {S s h a x : ℕ} → h ≡ 0 → Lowest m S s x → Put w a (in_slot x (node_at w a)) w' → Got m S s h w a w' (x + 1)
-got_made {x = x} e l p = record { slot = x; gets = Gets.made e l refl; put = p }
+pub got_made : {m w w' : List ℕ} {S s a x : ℕ} → Lowest m S s x → Put w a (in_slot x (node_at w a)) w' → Got m S s None w a w' (x + 1)
+got_made {x = x} l p = record { slot = x; gets = Gets.made l refl; put = p }
 
-gets_some : {m : List ℕ} {S s h x s' : ℕ} → 1 ≤ s → Gets m S s h x s' → 1 ≤ s'
+gets_some : {m : List ℕ} {S s : ℕ} {h : Option ℕ} {x s' : ℕ} → 1 ≤ s → Gets m S s h x s' → 1 ≤ s'
 gets_some o (Gets.kept l) = o
-gets_some o (Gets.made e l q) = omega arith
+gets_some o (Gets.made l q) = omega arith
 
 -- it is as the rule says
-gets_given : {m hs rest ss : List ℕ} {S s h x s' : ℕ} → Marked m hs → Held S hs → Gets m S s h x s' → 1 ≤ s → Given hs s' rest ss → Given hs s (h ∷ rest) (x ∷ ss)
-gets_given k d (Gets.kept l) o g = Given.kept l g
-gets_given {m} {hs} {rest} {ss} {S} {s} k d (Gets.made {h = h} {x = x} {s' = s'} e l q) o g =
+gets_given : {m hs rest ss : List ℕ} {S s h : ℕ} {r : Option ℕ} {x s' : ℕ} → Marked m hs → Held S hs → Holds h r → Gets m S s r x s' → 1 ≤ s → Given hs s' rest ss → Given hs s (h ∷ rest) (x ∷ ss)
+gets_given k d e (Gets.kept l) o g = rw e.0 (Given.kept l g)
+gets_given {m} {hs} {rest} {ss} {S} {s} k d e (Gets.made {x = x} {s' = s'} l q) o g =
     let p : suc x ≡ s' = omega (arith, q) in
     let g' : Given hs (suc x) rest ss = rw (← p) at g in
     rw e (Given.made l.from unheld passed g')
@@ -111,10 +93,10 @@ giving_none w ms base k =
     }
 
 -- what the i-th node holds is read from the old tree's nodes
-pub giving_holds : {w ms w' : List ℕ} {base k i s : ℕ} (h : ℕ) → Giving w ms base k w' i s → get_or ms i 0 ≤ base → h ≡ slot_by w' (get_or ms i 0) → h ≡ slot_by w (get_or ms i 0)
-giving_holds {w} {ms} {w'} {base} {i = i} h g l e = e ∙ slot_kept w w' base (get_or ms i 0) g.before l
+pub giving_holds : {w ms w' : List ℕ} {base k i s : ℕ} (r : Option ℕ) → Giving w ms base k w' i s → get_or ms i 0 ≤ base → Holds (slot_by w' (get_or ms i 0)) r → Holds (slot_by w (get_or ms i 0)) r
+giving_holds {w} {ms} {w'} {base} {i = i} r g l e = rw (slot_kept w w' base (get_or ms i 0) g.before l) at e
 
-pub giving_more : {S : ℕ} {w ms w' w'' m : List ℕ} {base k i s s' h : ℕ} → Marks w ms k m → Fit S w ms k → i < k → h ≡ slot_by w (get_or ms i 0)
+pub giving_more : {S : ℕ} {w ms w' w'' m : List ℕ} {base k i s s' : ℕ} {h : Option ℕ} → Marks w ms k m → Fit S w ms k → i < k → Holds (slot_by w (get_or ms i 0)) h
     → Got m S s h w' (base + i) w'' s' → Giving w ms base k w' i s → Giving w ms base k w'' (i + 1) s'
 giving_more {S} {w} {ms} {w'} {w''} {m} {base} {k} {i} {s} {s'} {h} mk d l e u g =
     record {
@@ -122,7 +104,7 @@ giving_more {S} {w} {ms} {w'} {w''} {m} {base} {k} {i} {s} {s'} {h} mk d l e u g
       some = gets_some g.some u.gets;
       given = λ ss z.
           let hs : List ℕ = held_from w ms k 0 in
-          let y : Given hs s (held_from w ms (k - i) i) (u.slot ∷ ss) = rw (held_next w ms k i l, ← e) (gets_given mk.marked d.held u.gets g.some z) in
+          let y : Given hs s (held_from w ms (k - i) i) (u.slot ∷ ss) = rw (held_next w ms k i l) (gets_given mk.marked d.held e u.gets g.some z) in
           rw (more, append_assoc (slots_of (nodes_from w' i base)) (u.slot ∷ []) ss) (g.given (u.slot ∷ ss) y);
       fields = λ x b. by_cases (dec_lt x i) (λ c. earlier x c) (λ c. let q : x ≡ i = omega arith in rw q here);
       before = λ j b. u.put.before j (omega arith) ∙ g.before j b;
@@ -143,10 +125,8 @@ giving_more {S} {w} {ms} {w'} {w''} {m} {base} {k} {i} {s} {s'} {h} mk d l e u g
         let q : node_at w' (base + i) ≡ node_at w (base + i) = node_kept w w' (base + i) (λ j x y. g.behind j (omega arith)) in
         rw (u.put.node, q)
 
-pub giving_all : {w ms w' : List ℕ} {base k i s : ℕ} → k ≤ i → i ≤ k → Giving w ms base k w' i s → Gives w base k (held_from w ms k 0) w'
-giving_all {w} {ms} {w'} {base} {k} {i} {s} l l' h =
-    let q : i ≡ k = omega arith in
-    let g : Giving w ms base k w' k s = rw q at h in
+pub giving_all : {w ms w' : List ℕ} {base k s : ℕ} → Giving w ms base k w' k s → Gives w base k (held_from w ms k 0) w'
+giving_all {w} {ms} {w'} {base} {k} {s} g =
     let z : k - k ≡ 0 = omega arith in
     record {
       long = g.long;

@@ -1,6 +1,6 @@
 -- A mark for each slot that is held.
-use Rattle.std.specs.Prelude.{ℕ, zero, suc, ◌+◌, ◌≤◌, ◌<◌, ◌≡◌, refl, length, get_or, set}
-use Rattle.std.proofs.Common.{sym, ap, ◌∙◌, ⊎_elim, get_or-set_same, get_or-set_other, arith}
+use Rattle.std.specs.Prelude.{None, Some, ℕ, zero, suc, ◌+◌, ◌≤◌, ◌<◌, ◌≡◌, refl, length, get_or, set}
+use Rattle.std.proofs.Common.{ap, ◌∙◌, ⊎_elim, get_or-set_same, get_or-set_other, arith}
 use Rattle.std.proofs.Math.Logic.{by_cases}
 use mathlib.Core.List.Memᴰ
 use mathlib.Core.List.{List, [], ◌∷◌, ◌++◌, Memᴰ, append-nil}
@@ -9,37 +9,12 @@ use Rattle.base.specs.Bytes.{byte_at}
 use Rattle.base.specs.Blocks.{zeros, byte_zeros}
 use Rattle.edits.specs.Keeping.{kept_of}
 use Rattle.edits.specs.Giving.{held_of, kept_made}
-use Rattle.keeping.specs.Matched.{slot_by, held_from, length_from, held_last}
+use Rattle.keeping.specs.Matched.{slot_by, held_from, length_from, held_last, Holds}
 
 -- the slots held are the ones marked
 pub record Marked (m hs : List ℕ) : Type 0 where
   pub held : (s : ℕ) → Memᴰ s (held_of hs) → byte_at m s ≡ 1
   pub free : (s : ℕ) → (Memᴰ s (held_of hs) → ⊥) → byte_at m s ≡ 0
-
--- with a mark at h, if that is a slot
-unfoldable pub mark : List ℕ → ℕ → List ℕ
-mark m zero = m
-mark m (suc s) = set m (suc s) 1
-
-pub mark_none : (m : List ℕ) (h : ℕ) → h ≡ 0 → m ≡ mark m h
-unfolding mark
-mark_none m h e = rw e
-
-pub mark_some : (m : List ℕ) (h : ℕ) → (h ≡ 0 → ⊥) → set m h 1 ≡ mark m h
-unfolding mark
-mark_some m zero n = absurd (n refl)
-mark_some m (suc s) n = refl
-
-pub kept_none : (h : ℕ) → h ≡ 0 → 0 ≡ kept_of (h ∷ [])
-kept_none zero e = refl
-kept_none (suc s) e = absurd (omega arith)
-
-pub kept_some : (h : ℕ) → (h ≡ 0 → ⊥) → 1 ≡ kept_of (h ∷ [])
-kept_some zero n = absurd (n refl)
-kept_some (suc s) n = refl
-
-pub kept_few : {x : ℕ} (h : ℕ) → x ≡ kept_of (h ∷ []) → x ≤ 1
-kept_few h e = omega (arith, kept_made (h ∷ []))
 
 held_append : (hs : List ℕ) (h : ℕ) → held_of (hs ++ (h ∷ [])) ≡ held_of hs ++ held_of (h ∷ [])
 held_append [] h = refl
@@ -51,12 +26,14 @@ kept_append [] h = omega arith
 kept_append (zero ∷ hs) h = kept_append hs h
 kept_append (suc s ∷ hs) h = omega (arith, kept_append hs h)
 
-marked_more : (m hs : List ℕ) (h : ℕ) → h < length m → Marked m hs → Marked (mark m h) (hs ++ (h ∷ []))
-unfolding mark
-marked_more m hs zero l k =
+marked_none : (m hs : List ℕ) → Marked m hs → Marked m (hs ++ (0 ∷ []))
+marked_none m hs k =
     let q : held_of (hs ++ (0 ∷ [])) ≡ held_of hs = held_append hs 0 ∙ append-nil (held_of hs) in
     record { held = λ s x. k.held s (rw q at x); free = λ s x. k.free s (λ y. x (rw q y)) }
-marked_more m hs (suc h) l k =
+
+marked_some : (m hs : List ℕ) (h : ℕ) → 1 ≤ h → h < length m → Marked m hs → Marked (set m h 1) (hs ++ (h ∷ []))
+marked_some m hs zero o l k = absurd (omega arith)
+marked_some m hs (suc h) o l k =
     let q : held_of (hs ++ (suc h ∷ [])) ≡ held_of hs ++ (suc h ∷ []) = held_append hs (suc h) in
     record { held = λ s x. at s (rw q at x); free = λ s x. off s (λ y. x (rw q y)) }
   where
@@ -83,27 +60,27 @@ pub record Keeps (w ms : List ℕ) (k kept : ℕ) : Type 0 where
 pub keeps_few : {w ms : List ℕ} {k kept : ℕ} → Keeps w ms k kept → kept ≤ k
 keeps_few {w} {ms} {k} h = omega (arith, h.count, kept_made (held_from w ms k 0), length_from w ms k 0)
 
-pub marks_none : (w ms m : List ℕ) (n : ℕ) → m ≡ zeros n → Marks w ms 0 m
-marks_none w ms m n e =
+pub marks_start : (w ms m : List ℕ) (n : ℕ) → m ≡ zeros n → Marks w ms 0 m
+marks_start w ms m n e =
     record { marked = record { held = λ s x. absurd (Memᴰ.not-nil x); free = λ s x. ap (λ (u : List ℕ). byte_at u s) e ∙ byte_zeros n s } }
 
-pub keeps_none : (w ms : List ℕ) → Keeps w ms 0 0
-keeps_none w ms = record { count = refl }
+pub keeps_start : (w ms : List ℕ) → Keeps w ms 0 0
+keeps_start w ms = record { count = refl }
 
-module _ (w ms : List ℕ) (i h : ℕ) (e : h ≡ slot_by w (get_or ms i 0)) where
-  more : held_from w ms (i + 1) 0 ≡ held_from w ms i 0 ++ (h ∷ [])
-  more =
-      held_last w ms i 0 ∙ ap (λ (j : ℕ). held_from w ms i 0 ++ (slot_by w (get_or ms j 0) ∷ [])) (omega arith) ∙ ap (λ (s : ℕ). held_from w ms i 0 ++ (s ∷ [])) (sym e)
+module _ (w ms : List ℕ) (i : ℕ) where
+  more : (h : ℕ) → slot_by w (get_or ms i 0) ≡ h → held_from w ms (i + 1) 0 ≡ held_from w ms i 0 ++ (h ∷ [])
+  more h e =
+      held_last w ms i 0 ∙ ap (λ (j : ℕ). held_from w ms i 0 ++ (slot_by w (get_or ms j 0) ∷ [])) (omega arith) ∙ ap (λ (s : ℕ). held_from w ms i 0 ++ (s ∷ [])) e
 
-  pub marks_more : {m m' : List ℕ} → h < length m → m' ≡ mark m h → Marks w ms i m → Marks w ms (i + 1) m'
-  marks_more {m} l f k = record { marked = rw (more, f) (marked_more m (held_from w ms i 0) h l k.marked) }
+  pub marks_none : {m : List ℕ} → Holds (slot_by w (get_or ms i 0)) None → Marks w ms i m → Marks w ms (i + 1) m
+  marks_none {m} e k = record { marked = rw (more 0 e) (marked_none m (held_from w ms i 0) k.marked) }
 
-  pub keeps_more : {kept x : ℕ} → x ≡ kept_of (h ∷ []) → Keeps w ms i kept → Keeps w ms (i + 1) (kept + x)
-  keeps_more g k = record { count = rw (more, kept_append (held_from w ms i 0) h) (omega (arith, k.count, g)) }
+  pub marks_some : {m m' : List ℕ} (h : ℕ) → Holds (slot_by w (get_or ms i 0)) (Some h) → h < length m → m' ≡ set m h 1 → Marks w ms i m → Marks w ms (i + 1) m'
+  marks_some {m} h e l f k = record { marked = rw (more h e.0, f) (marked_some m (held_from w ms i 0) h e.1 l k.marked) }
 
-module _ {w ms : List ℕ} {k i : ℕ} (l : k ≤ i) (l' : i ≤ k) where
-  pub marks_all : {m : List ℕ} → Marks w ms i m → Marks w ms k m
-  marks_all h = let q : i ≡ k = omega arith in rw q at h
+  pub keeps_none : {kept : ℕ} → Holds (slot_by w (get_or ms i 0)) None → Keeps w ms i kept → Keeps w ms (i + 1) kept
+  keeps_none e k = record { count = rw (more 0 e, kept_append (held_from w ms i 0) 0) (omega (arith, k.count)) }
 
-  pub keeps_all : {kept : ℕ} → Keeps w ms i kept → Keeps w ms k kept
-  keeps_all h = let q : i ≡ k = omega arith in rw q at h
+  pub keeps_some : {kept : ℕ} (h : ℕ) → Holds (slot_by w (get_or ms i 0)) (Some h) → Keeps w ms i kept → Keeps w ms (i + 1) (kept + 1)
+  keeps_some zero e k = absurd (omega (arith, e.1))
+  keeps_some (suc h) e k = record { count = rw (more (suc h) e.0, kept_append (held_from w ms i 0) (suc h)) (omega (arith, k.count)) }

@@ -1,5 +1,5 @@
 -- Which slot each node of the new tree holds: that of the old node with which it is matched.
-use Rattle.std.specs.Prelude.{ℕ, zero, suc, ◌+◌, ◌-◌, ◌*◌, ◌≤◌, ◌<◌, ◌≡◌, refl, List, [], ◌∷◌, ◌++◌, length, get_or}
+use Rattle.std.specs.Prelude.{Option, None, Some, ℕ, zero, suc, ◌+◌, ◌-◌, ◌*◌, ◌≤◌, ◌<◌, ◌≡◌, refl, List, [], ◌∷◌, ◌++◌, length, get_or}
 use Rattle.std.proofs.Common.{ap, ◌∙◌, arith}
 use Rattle.trees.specs.Coded.{node_size, node_at}
 use Rattle.trees.specs.Listing.{node_kept}
@@ -22,6 +22,20 @@ held_from w ms (suc k) i = slot_by w (get_or ms i 0) ∷ held_from w ms k (i + 1
 pub record Old (base k : ℕ) (ms : List ℕ) : Type 0 where
   pub each : (i : ℕ) → i < k → get_or ms i 0 ≤ base
 
+-- the slot that a node holds, if it holds one: h, unless that is 0
+abbrev pub Holds : ℕ → Option ℕ → Type 0
+Holds h None = h ≡ 0
+Holds h (Some s) = (h ≡ s) × (1 ≤ s) × (s < 65536)
+
+-- such a slot
+abbrev pub Slot : Option ℕ → Type 0
+Slot None = Unit {0}
+Slot (Some s) = (1 ≤ s) × (s < 65536)
+
+pub slot_in : (h : ℕ) (r : Option ℕ) → Holds h r → Slot r
+slot_in h None e = tt
+slot_in h (Some s) e = (e.1, e.2)
+
 pub slot_none : (w : List ℕ) (m : ℕ) → m ≡ 0 → 0 ≡ slot_by w m
 unfolding slot_by
 slot_none w m e = rw e
@@ -31,9 +45,10 @@ unfolding slot_by
 slot_some w zero s n e = absurd (n refl)
 slot_some w (suc a) s n e = e ∙ ap (λ (x : ℕ). (node_at w x).slot) (omega arith)
 
--- the same of a number that was read
-pub slot_of : (w : List ℕ) (x m s : ℕ) → m ≡ x → (m ≡ 0 → ⊥) → s ≡ (node_at w (m - 1)).slot → s ≡ slot_by w x
-slot_of w x m s e n f = rw e at (slot_some w m s n f)
+-- the same of node j
+pub slot_next : (w : List ℕ) (j m s : ℕ) → j + 1 ≡ m → s ≡ (node_at w j).slot → slot_by w m ≡ s
+unfolding slot_by
+slot_next w j m s e f = let q : suc j ≡ m = omega arith in rw (← q, f)
 
 -- only the old tree's nodes matter
 pub slot_kept : (w w' : List ℕ) (base m : ℕ) → ((j : ℕ) → j < node_size * base → byte_at w' j ≡ byte_at w j) → m ≤ base → slot_by w' m ≡ slot_by w m

@@ -1,6 +1,8 @@
 -- The lists that an edit keeps in the work area: both trees' nodes, the notes and the marks.
 use Prim.Native.Nat.{ℕ, zero, suc, ◌+◌, ◌-◌, ◌*◌, ◌≤◌, ◌<◌}
-use Rattle.std.specs.Prelude.{◌≡◌, refl, ◌⊎◌, get_or, take, drop}
+use Rattle.std.specs.Prelude.{◌≡◌, refl, ◌⊎◌, get_or, take, drop, Option, None, Some, eqb}
+use Rattle.std.proofs.lemmas.Bool.{eqb-true, eqb-false}
+use Rattle.base.specs.Tells.{Tells}
 use Rattle.std.proofs.Math.Path.{sym, ap}
 use Rattle.std.proofs.Common.{◌∙◌, inl, inr, length-set, length-append, get_or-drop, get_or-append-add, get_or-set_same}
 use Rattle.std.proofs.Math.Logic.{by_cases}
@@ -38,6 +40,11 @@ marks_at S = note_at S (S + S + 1)
 
 abbrev pub notes_size : ℕ → ℕ
 notes_size S = marks_at S + (S + 1)
+
+-- how the notes have an old node: 1 + its index, or 0
+abbrev pub entry_of : Option ℕ → ℕ
+entry_of None = 0
+entry_of (Some j) = j + 1
 
 -- f i, f (i + 1), .., n of them
 abbrev pub list_from : (ℕ → ℕ) → ℕ → ℕ → List ℕ
@@ -248,6 +255,10 @@ module _ (w : List ℕ) (S : ℕ) where
 
     pub slot_is : r ≡ (node_at w x).slot → r ≡ (node_at (nodes_in S w) x).slot
     slot_is e = e ∙ ap (λ (u : Node). u.slot) (sym (node_in x l))
+
+-- a number is read, and is 0 or not
+pub tells_zero : (a b : ℕ) → a ≡ b → Tells (b ≡ 0) (eqb a 0)
+tells_zero a b q = record { yes = λ e. sym q ∙ eqb-true a 0 e; no = λ e z. eqb-false a 0 e (q ∙ z) }
 
 -- ---- writing
 

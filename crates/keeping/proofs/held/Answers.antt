@@ -1,10 +1,13 @@
-use Rattle.keeping.specs.Matched.{slot_of}
-use Rattle.keeping.specs.Matched.{slot_none}
+use Rattle.keeping.specs.Matched.{slot_none, slot_next}
+use Rattle.std.proofs.Common.{sym, ◌∙◌}
 use borrow.Author.Rules.{rules}
 use Rattle.keeping.proofs.held.Goals as goal
 
-pub returns-then-m-eq0 : goal.returns-then-m-eq0
-returns-then-m-eq0 c = (slot_none _ _ (search rules), search rules)
+pub returns-in_default : goal.returns-in_default
+returns-in_default c = let e = c.in_default.ensures in sym (slot_none _ _ (sym e.0))
 
-pub returns : goal.returns
-returns c = (slot_of _ _ _ _ c.match_of-m.ensures.0 (search rules) c.slot_in.ensures.0, search rules)
+pub returns-in-0 : goal.returns-in-0
+returns-in-0 c = let e = c.in-Some.ensures in slot_next _ _ _ _ e.0 c.slot_of.ensures.0 ∙ c.in-0.is
+
+pub returns-in_default-slot_of : goal.returns-in_default-slot_of
+returns-in_default-slot_of c = let e = c.in-Some.ensures in (slot_next _ _ _ _ e.0 c.slot_of.ensures.0, search rules, search rules)

@@ -1,53 +1,38 @@
-use Rattle.keeping.specs.Seen.{seen_here, seen_more, match_fits, slot_then, old_now, fit_now, marks_room, marks_then, keeps_then}
+use Rattle.std.proofs.Common.{◌<◌, ◌≤◌, None, Some}
 use Rattle.keeping.specs.Matched.{fit_few}
-use Rattle.keeping.specs.Marking.{kept_few, keeps_few, marks_none, keeps_none, marks_more, keeps_more, marks_all, keeps_all}
+use Rattle.keeping.specs.Seen.{seen_here, seen_more, held_then, marks_room}
+use Rattle.keeping.specs.Marking.{keeps_few, marks_start, keeps_start, marks_none, keeps_none, marks_some, keeps_some}
 use borrow.Author.Rules.{rules}
-use Rattle.std.proofs.Common.{arith}
 use Rattle.keeping.proofs.hold_all.Goals as goal
 
 pub loop-i-init : goal.loop-i-init
-loop-i-init c =
-    let v = c.clear_marks.ensures in (
-      search rules,
-      search rules,
-      search rules,
-      old_now v (search rules),
-      fit_now v (search rules),
-      search rules,
-      seen_here _ _,
-      marks_none _ _ _ _ v.marks,
-      keeps_none _ _,
-      search rules,
-    )
+loop-i-init c = let h = c.clear_marks.ensures in record { seen = seen_more (seen_here _) h; marks = marks_start _ _ _ _ h.marks; keeps = keeps_start _ _ }
 
-pub held-h-requires : goal.held-h-requires
-held-h-requires c = (search rules, search rules, search rules, match_fits c.loop-i.invariant.6 _ _ c.loop-i.invariant.3 (search rules))
+pub loop-i-preserved-in_default : goal.loop-i-preserved-in_default
+loop-i-preserved-in_default c =
+    let u = c.loop-i.invariant in
+    let e = held_then u.seen _ None c.in_default.ensures in
+    record { seen = u.seen; marks = marks_none _ _ _ e u.marks; keeps = keeps_none _ _ _ e u.keeps }
 
-pub hold-kept-requires : goal.hold-kept-requires
-hold-kept-requires c = let u = c.loop-i.invariant in let e = slot_then u.6 _ _ c.held-h.ensures.0 in let l = fit_few c.loop-i.i u.4 (search rules) in (search rules, search rules, omega (arith, e))
+pub set_mark-requires : goal.set_mark-requires
+set_mark-requires c =
+    let e = held_then c.loop-i.invariant.seen _ (Some c.in-Some.s) c.in-Some.ensures in
+    let l : c.loop-i.i < c.args.k = search rules in
+    let x = fit_few c.loop-i.i c.requires.2 l in
+    search rules
 
 pub overflow_add-kept : goal.overflow_add-kept
-overflow_add-kept c = let k = keeps_few c.loop-i.invariant.8 in let l = kept_few c.held-h.result c.hold-kept.ensures.1 in search rules
+overflow_add-kept c = let x = keeps_few c.loop-i.invariant.keeps in search rules
 
 pub loop-i-preserved : goal.loop-i-preserved
 loop-i-preserved c =
     let u = c.loop-i.invariant in
-    let l = fit_few c.loop-i.i u.4 (search rules) in
-    let e = slot_then u.6 _ _ c.held-h.ensures.0 in (
-      search rules,
-      search rules,
-      search rules,
-      search rules,
-      search rules,
-      search rules,
-      seen_more u.6 c.hold-kept.ensures.0,
-      marks_more _ _ _ _ e (marks_room _ _ _ (omega arith)) c.hold-kept.ensures.0.marks u.7,
-      keeps_more _ _ _ _ e c.hold-kept.ensures.1 u.8,
-      search rules,
-    )
-
-pub returns : goal.returns
-returns c =
-    let v = c.clear_marks.ensures in
-    let u = c.loop-i.invariant in
-    (marks_then v (marks_all (search rules) (search rules) u.7), keeps_then v (keeps_all (search rules) (search rules) u.8), seen_more v u.6)
+    let e = held_then u.seen _ (Some c.in-Some.s) c.in-Some.ensures in
+    let k : c.loop-i.i < c.args.k = search rules in
+    let x = fit_few c.loop-i.i c.requires.2 k in
+    let l : c.in-Some.s ≤ c.loop-i.notes.slots = search rules in
+    record {
+      seen = seen_more u.seen c.set_mark.ensures;
+      marks = marks_some _ _ _ _ e (marks_room c.loop-i.notes _ l) c.set_mark.ensures.marks u.marks;
+      keeps = keeps_some _ _ _ _ e u.keeps;
+    }

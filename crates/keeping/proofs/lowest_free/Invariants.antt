@@ -1,12 +1,6 @@
-use Rattle.std.proofs.Common.{◌+◌, ◌-◌, ◌≤◌, max}
-use Rattle.std.proofs.Common.{length}
-use Rattle.trees.specs.Area.{max_slots}
-use Rattle.notes.specs.Views.{notes_size, marks_in}
-use Rattle.keeping.specs.Filling.{Passed}
+use Rattle.std.proofs.Common.{◌≡◌, ℕ, ◌<◌, ◌≤◌, get_or}
+use Rattle.notes.specs.Lists.{marks_of}
 use Rattle.keeping.proofs.lowest_free.Given as goal
 
 abbrev pub invariant-loop-x : goal.invariant-loop-x
-invariant-loop-x l = (l.slots ≤ max_slots) × (notes_size l.slots ≤ length l.work) × (l.x ≤ max l.s (l.slots + 1)) × Passed (marks_in l.slots l.work) l.s l.x
-
-abbrev pub decreases-loop-x : goal.decreases-loop-x
-decreases-loop-x l = l.slots + 1 - l.x
+invariant-loop-x l = (y : ℕ) → l.s ≤ y → y < l.x → get_or (marks_of l.notes) y 0 ≡ 0 → ⊥

@@ -1,6 +1,0 @@
-use Rattle.notes.specs.Views.{end_is}
-use borrow.Author.Rules.{rules}
-use Rattle.notes.proofs.end_of.Goals as goal
-
-pub returns : goal.returns
-returns c = (search (end_is, rules), search rules)

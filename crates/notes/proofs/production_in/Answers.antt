@@ -1,6 +1,0 @@
-use Rattle.notes.specs.Views.{production_is}
-use borrow.Author.Rules.{rules}
-use Rattle.notes.proofs.production_in.Goals as goal
-
-pub returns : goal.returns
-returns c = (search (production_is, rules), search rules)
