@@ -16,8 +16,7 @@ use Rattle.matching.specs.Through.{Matching}
 use Rattle.keeping.specs.Matched.{held_from, Old, Fit}
 use Rattle.keeping.specs.Marking.{Keeps as Counts}
 use Rattle.keeping.specs.Filling.{Gives}
-use Rattle.altering.specs.declared.Alteration.TheVariants as Alteration
-use Rattle.altering.specs.Outcome.{AltersTree}
+use Rattle.altering.specs.Outcome.{renewed, AltersTree}
 use Rattle.altering.specs.Treed.{treed_fits}
 use Rattle.altering.specs.Settling.{Both, both_old, both_new, both_one, both_some, both_numbers, both_fit, both_old_nodes, both_spread, both_fed, both_few, both_alters}
 use Rattle.altering.specs.Parts.{nodes_drop}
@@ -34,7 +33,7 @@ pub record Doubled (rows : List ℕ) (S place removed inserted : ℕ) (tree w : 
 pub record SettledAll (rows : List ℕ) (S place removed inserted : ℕ) (tree w : List ℕ) (o k r : ℕ) (tree' : List ℕ)
     : Type 0 where
   pub all : (head : Head) (e : Edit) → Numbers e place removed inserted → Both (grammar_in rows head) S e tree w o k
-      → AltersTree (grammar_in rows head) S e tree (Alteration.Altered k r) tree'
+      → AltersTree (grammar_in rows head) S e tree (renewed k r) tree'
 
 module _ {rows : List ℕ} {S place removed inserted : ℕ} {tree w : List ℕ} {o k : ℕ}
     (h : Doubled rows S place removed inserted tree w o k) where

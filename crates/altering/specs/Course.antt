@@ -1,5 +1,5 @@
 -- The course of an edit: the new sentence is formed and parsed behind the old nodes, and the answer is what the meaning says.
-use Rattle.std.specs.Prelude.{ℕ, suc, ◌+◌, ◌-◌, ◌*◌, ◌≤◌, ◌<◌, ◌≡◌, refl, List, [], ◌++◌, length, take, drop}
+use Rattle.std.specs.Prelude.{ℕ, suc, ◌+◌, ◌-◌, ◌*◌, ◌≤◌, ◌<◌, ◌≡◌, refl, Err, List, [], ◌++◌, length, take, drop}
 use Rattle.std.proofs.Common.{sym, ap, ◌∙◌, append-nil, length-take, length-drop, drop_of_length-le, drop_at, drop-drop, get_or-take, arith}
 use Rattle.std.proofs.Math.ListN.{get_or-append}
 use Rattle.base.specs.Bytes.{byte_at, get16}
@@ -27,8 +27,8 @@ use Rattle.matching.specs.Finding.{Numbers}
 use Rattle.sentences.specs.Forming.{NewSentence}
 use Rattle.sentences.specs.Behind.{Fronted}
 use Rattle.sentences.specs.Grounding.{part_of, ground_of, parses_of, whole_of}
-use Rattle.altering.specs.declared.Alteration.TheVariants as Alteration
-use Rattle.altering.specs.Outcome.{Alters, AltersTree, Few}
+use Rattle.altering.specs.declared.ParseError.TheVariants.{Syntax, NoRoom}
+use Rattle.altering.specs.Outcome.{renewed, Alters, AltersTree, Few}
 use Rattle.altering.specs.Treed.{Treed, leaves, treed_fits}
 use Rattle.altering.specs.Settling.{Both}
 use Rattle.altering.specs.Parts.{nodes_drop}
@@ -82,7 +82,7 @@ module _ (rows : List ℕ) (head : Head) {S : ℕ} {tree w : List ℕ} {o : ℕ}
       course_ground x = rw (text_is w₁ S r lp) (ground_of rows head p h.valid old_leaves s a x)
 
       module _ (l : limit ≡ suc S) where
-        pub course_syntax : {b : List ℕ} {v : Parsed} (i x : ℕ) → Ran G S (text_in S r lent_part) r b v → v ≡ Parsed.Syntax i x → AltersTree G S e tree (Alteration.Syntax i x) tree
+        pub course_syntax : {b : List ℕ} {v : Parsed} (i x : ℕ) → Ran G S (text_in S r lent_part) r b v → v ≡ Parsed.Syntax i x → AltersTree G S e tree (Err (Syntax i x)) tree
         course_syntax i x u q =
             record {
               all = λ v.
@@ -90,7 +90,7 @@ module _ (rows : List ℕ) (head : Head) {S : ℕ} {tree w : List ℕ} {o : ℕ}
                   Alters.wrong_syntax (rw z at (parses_of rows head p h.valid old_leaves s a l (rw (text_is w₁ S r lp) at (is_wrong i x u q))));
             }
 
-        pub course_room : {b : List ℕ} {v : Parsed} → Ran G S (text_in S r lent_part) r b v → v ≡ Parsed.NoRoom → AltersTree G S e tree Alteration.NoRoom tree
+        pub course_room : {b : List ℕ} {v : Parsed} → Ran G S (text_in S r lent_part) r b v → v ≡ Parsed.NoRoom → AltersTree G S e tree (Err NoRoom) tree
         course_room u q =
             record {
               all = λ v.
@@ -134,8 +134,8 @@ module _ (rows : List ℕ) (head : Head) {S : ℕ} {tree w : List ℕ} {o : ℕ}
           pub course_doubled : Doubled rows S place removed m tree (nodes_in S w₂) o k
           course_doubled = record { head = head; edit = e; numbers = numbers; both = both }
 
-          pub course_settled : {kept : ℕ} {tree' : List ℕ} → SettledAll rows S place removed m tree (nodes_in S w₂) o k kept tree' → AltersTree G S e tree (Alteration.Altered k kept) tree'
+          pub course_settled : {kept : ℕ} {tree' : List ℕ} → SettledAll rows S place removed m tree (nodes_in S w₂) o k kept tree' → AltersTree G S e tree (renewed k kept) tree'
           course_settled x = x.all head e numbers both
 
-pub few_altered : {o k r S : ℕ} → r ≤ k → r ≤ o → k ≤ S → S ≤ max_slots → Few o (Alteration.Altered k r)
+pub few_altered : {o k r S : ℕ} → r ≤ k → r ≤ o → k ≤ S → S ≤ max_slots → Few o (renewed k r)
 few_altered a b c d = Few.altered a b (omega arith)

@@ -1,26 +1,36 @@
 -- What an edit of a valid tree by good tokens comes to, where the range is right: the new tree, or the plain parse's refusal.
-use Rattle.std.specs.Prelude.{ℕ, ◌-◌, ◌≤◌, List}
+use Rattle.std.specs.Prelude.{ℕ, ◌-◌, ◌/◌, ◌≤◌, List, length, Result, Ok, Err}
 use Rattle.grammar.specs.Grammar.{Grammar}
-use Rattle.grammar.specs.Forest.{Forest, size, yield}
+use Rattle.grammar.specs.Forest.{Token, Forest, size, yield}
 use Rattle.trees.specs.Area.{max_slots, Area, Valid}
+use Rattle.plain.specs.Tokens.{token_size, tokens_from}
 use Rattle.plain.specs.Plain.{syntax, out_of_room, Parses}
 use Rattle.edits.specs.Keeping.{Edit, edited, Altered as NewTree}
-use Rattle.altering.specs.declared.Alteration.{Alteration}
-use Rattle.altering.specs.declared.Alteration.TheVariants.{Altered, Syntax, NoRoom}
+use Rattle.altering.specs.declared.Altered.{Altered}
+use Rattle.altering.specs.declared.ParseError.{ParseError}
+use Rattle.altering.specs.declared.ParseError.TheVariants.{Syntax, NoRoom}
+
+-- the tokens that fill a list of bytes
+abbrev pub tokens_in : List ℕ → List Token
+tokens_in b = tokens_from b (length b / token_size) 0
+
+-- a new tree of so many nodes, of which so many kept their slots
+abbrev pub renewed : ℕ → ℕ → Result Altered ParseError
+renewed total kept = Ok (record { total = total; kept = kept })
 
 -- of the old tree: the answer, and the area after the call
-pub data Alters (G : Grammar) (S : ℕ) (e : Edit) (tree : List ℕ) (old : Forest) : Alteration → List ℕ → Type 0 where
+pub data Alters (G : Grammar) (S : ℕ) (e : Edit) (tree : List ℕ) (old : Forest) : Result Altered ParseError → List ℕ → Type 0 where
   altered : {kept : ℕ} {tree' : List ℕ} (new : Forest) → NewTree G S e old new kept (size new - kept) (size old - kept) → Area S new tree'
-      → Alters G S e tree old (Altered (size new) kept) tree'
-  wrong_syntax : {i x : ℕ} → Parses G S (edited e (yield old)) (syntax i x) → Alters G S e tree old (Syntax i x) tree
-  no_room : Parses G S (edited e (yield old)) out_of_room → Alters G S e tree old NoRoom tree
+      → Alters G S e tree old (renewed (size new) kept) tree'
+  wrong_syntax : {i x : ℕ} → Parses G S (edited e (yield old)) (syntax i x) → Alters G S e tree old (Err (Syntax i x)) tree
+  no_room : Parses G S (edited e (yield old)) out_of_room → Alters G S e tree old (Err NoRoom) tree
 
 -- whichever valid tree the area is
-pub record AltersTree (G : Grammar) (S : ℕ) (e : Edit) (tree : List ℕ) (r : Alteration) (tree' : List ℕ) : Type 0 where
+pub record AltersTree (G : Grammar) (S : ℕ) (e : Edit) (tree : List ℕ) (r : Result Altered ParseError) (tree' : List ℕ) : Type 0 where
   pub all : (v : Valid G S tree) → Alters G S e tree v.tree r tree'
 
 -- the answer's numbers, where the old tree has o nodes
-pub data Few (o : ℕ) : Alteration → Type 0 where
-  altered : {k r : ℕ} → r ≤ k → r ≤ o → k ≤ max_slots → Few o (Altered k r)
-  wrong_syntax : {i x : ℕ} → Few o (Syntax i x)
-  no_room : Few o NoRoom
+pub data Few (o : ℕ) : Result Altered ParseError → Type 0 where
+  altered : {k r : ℕ} → r ≤ k → r ≤ o → k ≤ max_slots → Few o (renewed k r)
+  wrong_syntax : {i x : ℕ} → Few o (Err (Syntax i x))
+  no_room : Few o (Err NoRoom)

@@ -33,8 +33,7 @@ use Rattle.keeping.specs.Marking.{Keeps as Counts}
 use Rattle.keeping.specs.Filling.{Gives}
 use Rattle.keeping.specs.Result.{gives_spread, gives_same}
 use Rattle.altering.specs.Treed.{arity_rows, Treed, treed_fits}
-use Rattle.altering.specs.Outcome.{Alters, AltersTree}
-use Rattle.altering.specs.declared.Alteration.TheVariants as Alteration
+use Rattle.altering.specs.Outcome.{renewed, Alters, AltersTree}
 
 -- ---- a list of nodes that is a derivation
 
@@ -272,13 +271,13 @@ module _ (rows : List ℕ) (head : Head) {S : ℕ} {e : Edit} {tree w : List ℕ
           }
 
       -- what is laid out is the new tree's area
-      pub both_alters : (r : ℕ) {tree' : List ℕ} → Counts w ms k r → Area S (build (arity_in rows) (nodes_from w' k S)) tree' → AltersTree G S e tree (Alteration.Altered k r) tree'
+      pub both_alters : (r : ℕ) {tree' : List ℕ} → Counts w ms k r → Area S (build (arity_in rows) (nodes_from w' k S)) tree' → AltersTree G S e tree (renewed k r) tree'
       unfolding tree_in
       both_alters r {tree'} c a =
           record {
             all = λ v.
                 let q : old ≡ v.tree = valid_one h.old.valid v in
                 let z : size settled ≡ k = built_size rows w' k S in
-                let x : Alters G S e tree old (Alteration.Altered (size settled) r) tree' = Alters.altered settled (both_altered r c) a in
+                let x : Alters G S e tree old (renewed (size settled) r) tree' = Alters.altered settled (both_altered r c) a in
                 rw (q, z) at x;
           }

@@ -1,6 +1,7 @@
 -- What the checks of edit say, and what an alteration says of the rest of the call.
-use Rattle.std.specs.Prelude.{ℕ, ◌-◌, ◌*◌, ◌≤◌, ◌<◌, true, false, ◌≡◌, refl, List, length}
+use Rattle.std.specs.Prelude.{ℕ, ◌-◌, ◌*◌, ◌≤◌, ◌<◌, true, false, ◌≡◌, refl, Result, Ok, Err, List, length}
 use Rattle.std.proofs.Common.{ap, ◌∙◌, arith}
+use Rattle.std.specs.Result.{MatchResult, IsErrAnd}
 use Rattle.base.specs.Bytes.{get16}
 use Rattle.base.specs.Tells.{Tells, tells_yes, tells_no}
 use Rattle.base.specs.Choose.{never}
@@ -13,16 +14,18 @@ use Rattle.walks.specs.declared.Walked.{Walked}
 use Rattle.edits.specs.Keeping.{Edit}
 use Rattle.altering.specs.Outcome.{Alters, AltersTree, Few}
 use Rattle.altering.specs.Treed.{Treed, treed, untreed}
-use Rattle.altering.specs.declared.Alteration.{Alteration}
+use Rattle.altering.specs.declared.Altered.{Altered}
+use Rattle.altering.specs.declared.ParseError.{ParseError}
+use Rattle.altering.specs.declared.ParseError.TheVariants as errors
 use Rattle.replies.specs.declared.Counts.{Counts}
-use Rattle.replies.specs.declared.Reply.{Reply}
+use Rattle.replies.specs.declared.Reason.{Reason}
 use Rattle.replies.specs.declared.Reason.TheVariants as reasons
 use Rattle.replies.specs.declared.Reply.TheVariants.{Accepted, Refused}
+use Rattle.replies.specs.Reply.{reply_of}
 use Rattle.calls.specs.Order.{Outcome, refused, passed, accepting}
 use Rattle.calls.specs.Checks.{wrong_syntax, no_room}
 use Rattle.calls.specs.Edit.{renew_call}
 use Rattle.calls.proofs.CallsUnique.{altered_parses}
-use Rattle.editing.specs.declared.OldTree.{OldTree}
 
 -- ---- replies 5 and 6: the old tree
 
@@ -37,36 +40,31 @@ tells_none h e = tells_no (untreed h e)
 
 -- the area is a valid tree or not; if it is, its nodes are listed in the work area, which had `room` bytes, or that is
 -- too short
-pub data Finds (G : Grammar) (S : ℕ) (tree : List ℕ) (room : ℕ) (work : List ℕ) : OldTree → Type 0 where
+pub data Finds (G : Grammar) (S : ℕ) (tree : List ℕ) (room : ℕ) (work : List ℕ) : Result ℕ Reason → Type 0 where
   finds_tree : {o : ℕ} → Treed G S tree work o → work_areas * length tree ≤ room → room ≡ length work
-      → Finds G S tree room work (OldTree.Tree o)
-  finds_none : (Valid G S tree → ⊥) → Finds G S tree room work OldTree.NoTree
-  finds_short : Valid G S tree → room < work_areas * length tree → Finds G S tree room work OldTree.ShortWork
+      → Finds G S tree room work (Ok o)
+  finds_none : (Valid G S tree → ⊥) → Finds G S tree room work (Err reasons.WrongTree)
+  finds_short : Valid G S tree → room < work_areas * length tree → Finds G S tree room work (Err (reasons.ShortWork (work_areas * length tree)))
 
 module _ {G : Grammar} {S : ℕ} {tree : List ℕ} {room : ℕ} {work : List ℕ} where
   pub walk_tree : {r : Walked} (o : ℕ) → Reads G S tree work r → r ≡ Walked.Tree o → work_areas * length tree ≤ room
-      → room ≡ length work → Finds G S tree room work (OldTree.Tree o)
+      → room ≡ length work → Finds G S tree room work (Ok o)
   walk_tree o h e l m = finds_tree (treed o h e) l m
 
-  pub walk_none : {r : Walked} → Reads G S tree work r → r ≡ Walked.NoTree → Finds G S tree room work OldTree.NoTree
+  pub walk_none : {r : Walked} → Reads G S tree work r → r ≡ Walked.NoTree
+      → Finds G S tree room work (Err reasons.WrongTree)
   walk_none h e = finds_none (untreed h e)
 
-  pub found_tree : {r : OldTree} (o : ℕ) → Finds G S tree room work r → r ≡ OldTree.Tree o
+  -- the work area is too short
+  pub short : (need : ℕ) → need ≡ work_areas * length tree → Valid G S tree → room < need
+      → Finds G S tree room work (Err (reasons.ShortWork need))
+  short need e v l = rw e (finds_short v (omega (arith, e, l)))
+
+  pub found_tree : {r : Result ℕ Reason} (o : ℕ) → Finds G S tree room work r → r ≡ Ok o
       → Treed G S tree work o × (work_areas * length tree ≤ room) × (work_areas * length tree ≤ length work)
   found_tree o (finds_tree {o = p} h l m) e = let q : p ≡ o = cc in (rw q at h, l, omega (arith, l, m))
   found_tree o (finds_none n) e = never (cc)
   found_tree o (finds_short v l) e = never (cc)
-
-  pub found_none : {r : OldTree} → Finds G S tree room work r → r ≡ OldTree.NoTree → Valid G S tree → ⊥
-  found_none (finds_tree h l m) e = never (cc)
-  found_none (finds_none n) e = n
-  found_none (finds_short v l) e = never (cc)
-
-  pub found_short : {r : OldTree} → Finds G S tree room work r → r ≡ OldTree.ShortWork
-      → Valid G S tree × (room < work_areas * length tree)
-  found_short (finds_tree h l m) e = never (cc)
-  found_short (finds_none n) e = never (cc)
-  found_short (finds_short v l) e = (v, l)
 
 -- ---- reply 8: the range
 
@@ -77,58 +75,64 @@ tokens_counted v k e = let y = (valid_header v).tokens in omega (arith, e, y)
 
 -- ---- replies 9 and 10, and the new tree
 
+-- what `map_err` gave came from the same value, or from the error of which it was made
+pub mapped_ok : {T E D : Type 0} (Q : E → D → Type 0) (r : Result T E) {s : Result T D} (x : T)
+    → MatchResult r (λ y. s ≡ Ok y) (λ e. IsErrAnd s (Q e)) → s ≡ Ok x → r ≡ Ok x
+mapped_ok Q (Ok y) x h q = cc
+mapped_ok Q (Err e) x h q = absurd (rw q at h)
+
+pub mapped_err : {T E D : Type 0} (Q : E → D → Type 0) (r : Result T E) {s : Result T D} (d : D)
+    → MatchResult r (λ y. s ≡ Ok y) (λ e. IsErrAnd s (Q e)) → s ≡ Err d → (e : E) × (r ≡ Err e) × Q e d
+mapped_err Q (Ok y) d h q = absurd (cc)
+mapped_err Q (Err e) d h q = (e, refl, rw q at h)
+
 abbrev pub edit_counts : ℕ → ℕ → ℕ → ℕ → Counts
 edit_counts total kept made up = record { total = total; kept = kept; made = made; given_up = up }
 
+abbrev pub reason_of : ParseError → Reason
+reason_of (errors.Syntax i x) = reasons.Syntax i x
+reason_of errors.NoRoom = reasons.NoRoom
+
 -- whichever valid tree the area is, the rest of the call ends so
-pub record Renews (G : Grammar) (S : ℕ) (e : Edit) (tree : List ℕ) (r : Reply) (tree' : List ℕ) : Type 0 where
-  pub all : (v : Valid G S tree) → Outcome (renew_call G S e v.tree) tree r tree'
+pub record Renews (G : Grammar) (S : ℕ) (e : Edit) (tree : List ℕ) (r : Result Counts Reason) (tree' : List ℕ) : Type 0 where
+  pub all : (v : Valid G S tree) → Outcome (renew_call G S e v.tree) tree (reply_of r) tree'
 
-module _ {G : Grammar} {S : ℕ} {e : Edit} {tree : List ℕ} {r : Alteration} {tree' : List ℕ}
+module _ {G : Grammar} {S : ℕ} {e : Edit} {tree : List ℕ} {r : Result Altered ParseError} {tree' : List ℕ}
     (a : AltersTree G S e tree r tree') where
-  pub renews_syntax : (i x : ℕ) → r ≡ Alteration.Syntax i x → Renews G S e tree (Refused (reasons.Syntax i x)) tree'
-  renews_syntax i x q = record { all = λ v. go (a.all v) q }
+  pub renews_refused : (x : ParseError) → r ≡ Err x → Renews G S e tree (Err (reason_of x)) tree'
+  renews_refused x q = record { all = λ v. go (a.all v) q }
     where
-      go : {old : Forest} {r : Alteration} {b : List ℕ} → Alters G S e tree old r b → r ≡ Alteration.Syntax i x
-          → Outcome (renew_call G S e old) tree (Refused (reasons.Syntax i x)) b
+      go : {old : Forest} {r : Result Altered ParseError} {b : List ℕ} → Alters G S e tree old r b → r ≡ Err x
+          → Outcome (renew_call G S e old) tree (Refused (reason_of x)) b
       go (Alters.altered new y u) q = never (cc)
-      go (Alters.wrong_syntax {i = j} {x = z} p) q =
-          let s : j ≡ i = cc in
-          let f : z ≡ x = cc in
-          refused (wrong_syntax (rw (s, f) at p))
-      go (Alters.no_room p) q = never (cc)
+      go (Alters.wrong_syntax {i = i} {x = z} p) q =
+          let s : x ≡ errors.Syntax i z = cc in
+          rw s (refused (wrong_syntax p))
+      go (Alters.no_room p) q =
+          let s : x ≡ errors.NoRoom = cc in
+          rw s (refused (no_room p))
 
-  pub renews_no_room : r ≡ Alteration.NoRoom → Renews G S e tree (Refused reasons.NoRoom) tree'
-  renews_no_room q = record { all = λ v. go (a.all v) q }
-    where
-      go : {old : Forest} {r : Alteration} {b : List ℕ} → Alters G S e tree old r b → r ≡ Alteration.NoRoom
-          → Outcome (renew_call G S e old) tree (Refused reasons.NoRoom) b
-      go (Alters.altered new y u) q = never (cc)
-      go (Alters.wrong_syntax p) q = never (cc)
-      go (Alters.no_room p) q = refused (no_room p)
-
-  pub renews_altered : (nodes total kept : ℕ) (reply : Reply) (work : List ℕ) → Treed G S tree work nodes
-      → r ≡ Alteration.Altered total kept
-      → reply ≡ Accepted (edit_counts total kept (total - kept) (nodes - kept)) → Renews G S e tree reply tree'
-  renews_altered nodes total kept reply work h q f =
+  pub renews_altered : (nodes : ℕ) (m : Altered) (counts : Counts) (work : List ℕ) → Treed G S tree work nodes → r ≡ Ok m
+      → counts ≡ edit_counts m.total m.kept (m.total - m.kept) (nodes - m.kept) → Renews G S e tree (Ok counts) tree'
+  renews_altered nodes m counts work h q f =
       rw f (record { all = λ v. go v.some (h.count ∙ ap size (valid_one h.valid v)) (a.all v) q })
     where
-      go : {old : Forest} {r : Alteration} {b : List ℕ} → 1 ≤ S → nodes ≡ size old → Alters G S e tree old r b
-          → r ≡ Alteration.Altered total kept
-          → Outcome (renew_call G S e old) tree (Accepted (edit_counts total kept (total - kept) (nodes - kept))) b
+      go : {old : Forest} {r : Result Altered ParseError} {b : List ℕ} → 1 ≤ S → nodes ≡ size old → Alters G S e tree old r b
+          → r ≡ Ok m
+          → Outcome (renew_call G S e old) tree (Accepted (edit_counts m.total m.kept (m.total - m.kept) (nodes - m.kept))) b
       go l c (Alters.altered {kept = k} new y u) q =
-          let s : size new ≡ total = cc in
-          let f : k ≡ kept = cc in
-          rw (← s, ← f, c) (passed (altered_parses l y) (accepting (record { new = new; altered = y; total = refl; area = u })))
+          let n : Altered = record { total = size new; kept = k } in
+          let z : n ≡ m = cc in
+          rw (← z, c) (passed (altered_parses l y) (accepting (record { new = new; altered = y; total = refl; area = u })))
       go l c (Alters.wrong_syntax p) q = never (cc)
       go l c (Alters.no_room p) q = never (cc)
 
 -- the numbers of an alteration
-pub few_fit : {o : ℕ} {r : Alteration} (total kept : ℕ) → Few o r → o ≤ max_slots → r ≡ Alteration.Altered total kept
-    → (kept ≤ o) × (kept ≤ total) × (o ≤ max_slots) × (total ≤ max_slots)
-few_fit total kept (Few.altered {k = k} {r = j} a b c) l e =
-    let q : k ≡ total = cc in
-    let f : j ≡ kept = cc in
-    (omega (arith, f, b), omega (arith, q, f, a), l, omega (arith, q, c))
-few_fit total kept Few.wrong_syntax l e = never (cc)
-few_fit total kept Few.no_room l e = never (cc)
+pub few_fit : {o : ℕ} {r : Result Altered ParseError} (m : Altered) → Few o r → o ≤ max_slots → r ≡ Ok m
+    → (m.kept ≤ o) × (m.kept ≤ m.total) × (o ≤ max_slots) × (m.total ≤ max_slots)
+few_fit m (Few.altered {k = k} {r = j} a b c) l e =
+    let n : Altered = record { total = k; kept = j } in
+    let z : n ≡ m = cc in
+    rw (← z) (b, a, l, c)
+few_fit m Few.wrong_syntax l e = never (cc)
+few_fit m Few.no_room l e = never (cc)

@@ -1,11 +1,11 @@
 -- Meaning: the reply. Document 01, "Replies": "Each reply has number, place (64 bits), expected (32 bits), and the counts total, kept, made, given up."
-use Prim.Native.Nat.{ℕ, suc, ◌+◌, ◌-◌, ◌*◌, ◌/◌, ◌%◌, ◌≤◌, ◌<◌, min}
-use Rattle.std.specs.Prelude.{◌≡◌, refl, List, [], ◌∷◌, ◌++◌, length, get_or, drop, set}
-use Rattle.std.proofs.Common.{ap, sym, ◌∙◌, append-nil, length-append, get_or-drop, drop-drop, add-one}
-use Rattle.std.proofs.Math.Seq.{paste, paste-suc, paste-zero}
-use native.Mathlib.Omega.{arith}
+use Rattle.std.specs.Prelude.{ℕ, zero, suc, ◌+◌, ◌*◌, ◌/◌, ◌%◌, ◌^◌, ◌≤◌, ◌<◌, ◌≡◌, refl, Result, Ok, Err, List, [], ◌∷◌, ◌++◌, length, get_or, take, drop}
+use Rattle.std.specs.Int.{byte_at, bytes_low_first, to_le_bytes, w64}
+use Rattle.std.proofs.Common.{ap, sym, ◌∙◌, append-nil, append_assoc, length-append, length-drop, drop-cons, take_all, add-one, arith}
+use Rattle.std.proofs.Math.Nat.{div-one, div-div-eq-div-mul, pow-suc}
+use Rattle.std.proofs.Math.Seq.{take-append-add, take-append_seam}
+use Rattle.std.proofs.lemmas.List.{drop_all, length-take-le}
 use Rattle.base.specs.Bytes.{le_bytes, length_le}
-use Rattle.base.specs.Blocks.{copied, zeros, copied_zeros}
 use Rattle.replies.specs.declared.Counts.{Counts}
 use Rattle.replies.specs.declared.Reason.{Reason}
 use Rattle.replies.specs.declared.Reply.{Reply}
@@ -15,6 +15,11 @@ use Rattle.replies.specs.declared.Reply.TheVariants.{Accepted, Refused}
 -- "Fields not named [..] are 0"
 abbrev pub no_counts : Counts
 no_counts = record { total = 0; kept = 0; made = 0; given_up = 0 }
+
+-- "A reply is either accepted with its counts, or refused with one reason"
+abbrev pub reply_of : Result Counts Reason → Reply
+reply_of (Ok c) = Accepted c
+reply_of (Err x) = Refused x
 
 -- the table's first column
 abbrev pub number_of : Reply → ℕ
@@ -65,9 +70,6 @@ abbrev pub counts_of : Reply → Counts
 counts_of (Accepted c) = c
 counts_of (Refused x) = no_counts
 
-pub counts_refused : (r : Reply) (x : Reason) → r ≡ Refused x → no_counts ≡ counts_of r
-counts_refused r x e = rw e
-
 -- "number and counts 4 bytes each", place "64 bits", expected "32 bits"
 abbrev pub word_size : ℕ
 word_size = 4
@@ -84,64 +86,101 @@ reply_bytes r =
     le_bytes word_size (number_of r) ++ le_bytes place_size (place_of r) ++ le_bytes word_size (expected_of r)
     ++ le_bytes word_size (counts_of r).total ++ le_bytes word_size (counts_of r).kept ++ le_bytes word_size (counts_of r).made ++ le_bytes word_size (counts_of r).given_up
 
--- ---- writing a number: its bytes from i on are those of x
+-- ---- a number's bytes
 
-pub record LeAt (k v i x : ℕ) : Type 0 where
-  pub is : drop i (le_bytes k v) ≡ le_bytes (k - i) x
+byte_low : (i v : ℕ) → byte_at i v ≡ v / 256 ^ i % 256
+byte_low zero v = let q : v / 256 ^ 0 ≡ v = div-one v in rw q
+byte_low (suc i) v = refl
 
-pub le_start : (k v : ℕ) → LeAt k v 0 v
-le_start k v = let q : k - 0 ≡ k = omega arith in record { is = rw q }
+low_first : (i k m v : ℕ) → k ≤ m → take k (bytes_low_first i m v) ≡ le_bytes k (v / 256 ^ i)
+unfolding le_bytes
+low_first i zero m v l = refl
+low_first i (suc k) zero v l = absurd (omega arith)
+low_first i (suc k) (suc m) v l =
+    let q : v / 256 ^ i / 256 ≡ v / 256 ^ suc i = div-div-eq-div-mul v (256 ^ i) 256 ∙ ap (λ (u : ℕ). v / u) (sym (pow-suc 256 i)) in
+    rw (byte_low i v, q) (ap (λ (u : List ℕ). v / 256 ^ i % 256 ∷ u) (low_first (suc i) k m v (omega arith)))
 
-module _ (k v i x : ℕ) (h : LeAt k v i x) (l : i < k) where
-  le_open : drop i (le_bytes k v) ≡ x % 256 ∷ le_bytes (k - (i + 1)) (x / 256)
-  unfolding le_bytes
-  le_open = let q : k - i ≡ suc (k - (i + 1)) = omega arith in rw q at h.is
+-- `&v.to_le_bytes()[..k]`
+le_taken : (k v : ℕ) → k ≤ place_size → take k (to_le_bytes w64 v) ≡ le_bytes k v
+le_taken k v l = let q : v / 256 ^ 0 ≡ v = div-one v in rw q at (low_first 0 k 8 v l)
 
-  le_byte : get_or (le_bytes k v) i 0 ≡ x % 256
-  le_byte = let q : i + 0 ≡ i = omega arith in rw q at (sym (get_or-drop i (le_bytes k v) 0 0) ∙ ap (λ (u : List ℕ). get_or u 0 0) le_open)
+-- ---- the fields, one behind the other
 
-  pub le_next : LeAt k v (i + 1) (x / 256)
-  le_next = record { is = sym (drop-drop 1 i (le_bytes k v)) ∙ ap (drop 1) le_open }
+-- the bytes of fields, each with its size and its value
+pub fields_bytes : List (ℕ × ℕ) → List ℕ
+fields_bytes [] = []
+fields_bytes (f ∷ fs) = le_bytes f.0 f.1 ++ fields_bytes fs
 
-  pub put_turn : (b₀ b : List ℕ) (at : ℕ) → at + k ≤ length b₀ → b ≡ paste b₀ at (le_bytes k v) i → set b (at + i) (x % 256) ≡ paste b₀ at (le_bytes k v) (i + 1)
-  put_turn b₀ b at f e =
-      rw (e, add-one i) (ap (set (paste b₀ at (le_bytes k v) i) (at + i)) (sym le_byte) ∙ paste-suc b₀ at (le_bytes k v) i 0 (omega arith) (omega (arith, length_le k v)))
+-- they have n bytes together, and none has more than a place
+pub data Sized : ℕ → List (ℕ × ℕ) → Type 0 where
+  none : Sized 0 []
+  more : {n : ℕ} {f : ℕ × ℕ} {fs : List (ℕ × ℕ)} → f.0 ≤ place_size → Sized n fs → Sized (f.0 + n) (f ∷ fs)
 
-pub put_none : (b : List ℕ) (at k v : ℕ) → b ≡ paste b at (le_bytes k v) 0
-put_none b at k v = paste-zero b at (le_bytes k v)
+-- of the fields i are written, in `at` bytes; in the end the list is `all`
+pub record Laid (all : List ℕ) (fs : List (ℕ × ℕ)) (i at : ℕ) (b : List ℕ) : Type 0 where
+  pub long : length b ≡ reply_size
+  pub left : ℕ
+  pub sized : Sized left (drop i fs)
+  pub room : at + left ≡ reply_size
+  pub bytes : take at b ++ fields_bytes (drop i fs) ≡ all
 
-pub put_end : (b₀ b : List ℕ) (at k v i : ℕ) → at + k ≤ length b₀ → k ≤ i → i ≤ k → b ≡ paste b₀ at (le_bytes k v) i → b ≡ copied b₀ at (le_bytes k v)
-unfolding copied
-put_end b₀ b at k v i f l u e = let q : i ≡ min (length (le_bytes k v)) (length b₀ - at) = omega (arith, length_le k v) in e ∙ rw q
+pub laid_start : (r : Reply) (c : Counts) (n p x y t k m g : ℕ) → c ≡ counts_of r → n ≡ number_of r → p ≡ place_of r → x ≡ expected_of r
+    → y ≡ x → t ≡ c.total → k ≡ c.kept → m ≡ c.made → g ≡ c.given_up → (b : List ℕ) → length b ≡ reply_size
+    → Laid (reply_bytes r) ((word_size, n) ∷ (place_size, p) ∷ (word_size, y) ∷ (word_size, t) ∷ (word_size, k) ∷ (word_size, m) ∷ (word_size, g) ∷ []) 0 0 b
+unfolding reply_bytes fields_bytes
+laid_start r c n p x y t k m g ec en ep ex ey et ek em eg b l =
+    record {
+      long = l;
+      left = reply_size;
+      sized = Sized.more (omega arith) (Sized.more (omega arith) (Sized.more (omega arith) (Sized.more (omega arith) (Sized.more (omega arith) (Sized.more (omega arith) (Sized.more (omega arith) Sized.none))))));
+      room = refl;
+      bytes = rw (ey, et, ek, em, eg, ec, en, ep, ex) (simp (append_assoc, append-nil));
+    }
 
--- ---- the seven fields, one behind the other onto zeros
+none_left : {n : ℕ} {gs : List (ℕ × ℕ)} → Sized n gs → gs ≡ [] → n ≡ 0
+none_left Sized.none e = refl
+none_left (Sized.more s z) e = absurd (cc)
 
-grow : (a b b' : List ℕ) (m at k v : ℕ) → b ≡ a ++ zeros m → at ≡ length a → k ≤ m → b' ≡ copied b at (le_bytes k v) → b' ≡ (a ++ le_bytes k v) ++ zeros (m - k)
-grow a b b' m at k v e l f h =
-    h ∙ ap (λ (u : List ℕ). copied u at (le_bytes k v)) e ∙ ap (λ (i : ℕ). copied (a ++ zeros m) i (le_bytes k v)) l
-    ∙ copied_zeros a (le_bytes k v) m (omega (arith, length_le k v))
-    ∙ ap (λ (i : ℕ). a ++ le_bytes k v ++ zeros (m - i)) (length_le k v)
+module _ {all : List ℕ} {fs : List (ℕ × ℕ)} {i at : ℕ} {b : List ℕ} (h : Laid all fs i at b) where
+  abbrev field : ℕ × ℕ
+  field = get_or fs i (0, 0)
 
--- k bytes more, with m left
-pub record Grown (a b : List ℕ) (m at : ℕ) : Type 0 where
-  pub is : b ≡ a ++ zeros m
-  pub long : at ≡ length a
+  module _ (l : i < length fs) where
+    opened : drop i fs ≡ field ∷ drop (i + 1) fs
+    opened = rw add-one (drop-cons fs i (0, 0) l)
 
-grown_more : {a b b' : List ℕ} {m at : ℕ} (k v : ℕ) → k ≤ m → Grown a b m at → b' ≡ copied b at (le_bytes k v) → Grown (a ++ le_bytes k v) b' (m - k) (at + k)
-grown_more {a} {b} {b'} {m} {at} k v l h e =
-    record { is = grow a b b' m at k v h.is h.long l e; long = omega (arith, h.long, length-append a (le_bytes k v), length_le k v) }
+    first : {n : ℕ} {gs : List (ℕ × ℕ)} → Sized n gs → gs ≡ field ∷ drop (i + 1) fs → (m : ℕ) × (n ≡ field.0 + m) × (field.0 ≤ place_size) × Sized m (drop (i + 1) fs)
+    first Sized.none e = absurd (cc)
+    first (Sized.more {n = m} {f = f} {fs = gs} s z) e =
+        let q : f ≡ field = cc in
+        let t : gs ≡ drop (i + 1) fs = cc in
+        (m, ap (λ (u : ℕ × ℕ). u.0 + m) q, rw q at s, rw t at z)
 
-pub reply_laid : (r : Reply) (c : Counts) (n p x : ℕ) (b₀ b₁ b₂ b₃ b₄ b₅ b₆ b₇ : List ℕ) → c ≡ counts_of r → n ≡ number_of r → p ≡ place_of r → x ≡ expected_of r → b₀ ≡ zeros reply_size
-    → b₁ ≡ copied b₀ 0 (le_bytes word_size n) → b₂ ≡ copied b₁ 4 (le_bytes place_size p) → b₃ ≡ copied b₂ 12 (le_bytes word_size x) → b₄ ≡ copied b₃ 16 (le_bytes word_size c.total)
-    → b₅ ≡ copied b₄ 20 (le_bytes word_size c.kept) → b₆ ≡ copied b₅ 24 (le_bytes word_size c.made) → b₇ ≡ copied b₆ 28 (le_bytes word_size c.given_up) → b₇ ≡ reply_bytes r
-unfolding reply_bytes zeros
-reply_laid r c n p x b₀ b₁ b₂ b₃ b₄ b₅ b₆ b₇ ec en ep ex e₀ e₁ e₂ e₃ e₄ e₅ e₆ e₇ =
-    let g₀ : Grown [] b₀ reply_size 0 = record { is = e₀; long = refl } in
-    let g₁ = grown_more word_size n (omega arith) g₀ e₁ in
-    let g₂ = grown_more place_size p (omega arith) g₁ e₂ in
-    let g₃ = grown_more word_size x (omega arith) g₂ e₃ in
-    let g₄ = grown_more word_size c.total (omega arith) g₃ e₄ in
-    let g₅ = grown_more word_size c.kept (omega arith) g₄ e₅ in
-    let g₆ = grown_more word_size c.made (omega arith) g₅ e₆ in
-    let g₇ = grown_more word_size c.given_up (omega arith) g₆ e₇ in
-    rw (← ec, ← en, ← ep, ← ex) (g₇.is ∙ append-nil _)
+    pub laid_fits : (field.0 ≤ place_size) × (at + field.0 ≤ reply_size)
+    laid_fits = let q = first h.sized opened in let r = h.room in (q.2, omega arith)
+
+    pub laid_more : (v s : List ℕ) (m n : ℕ) → v ≡ to_le_bytes w64 field.1 → s ≡ take m v → m ≡ field.0 → n ≡ field.0
+        → Laid all fs (i + 1) (at + field.0) (take at b ++ (s ++ drop n (drop at b)))
+    unfolding fields_bytes
+    laid_more w s m n o e j k =
+        let q = first h.sized opened in
+        let t : s ≡ le_bytes field.0 field.1 = rw (o, j) at e ∙ le_taken field.0 field.1 q.2 in
+        let x : length s ≡ field.0 = rw t (length_le field.0 field.1) in
+        let y : length (take at b) ≡ at = length-take-le at b (omega (arith, h.room, h.long)) in
+        let z : take (at + field.0) (take at b ++ (s ++ drop n (drop at b))) ≡ take at b ++ s =
+        let v : at + field.0 ≡ length (take at b) + length s = omega (arith, x, y) in
+        rw v (take-append-add (take at b) (s ++ drop n (drop at b)) (length s) ∙ ap (λ (u : List ℕ). take at b ++ u) (take-append_seam s (drop n (drop at b)))) in
+        record {
+          long = omega (arith, length-append (take at b) (s ++ drop n (drop at b)), length-append s (drop n (drop at b)), length-drop n (drop at b), length-drop at b, x, y, k, q.1, h.long, h.room);
+          left = q.0;
+          sized = q.3;
+          room = omega (arith, h.room, q.1);
+          bytes = rw (z, t, append_assoc) (rw opened at h.bytes);
+        }
+
+  pub laid_all : length fs ≤ i → b ≡ all
+  unfolding fields_bytes
+  laid_all l =
+      let q : drop i fs ≡ [] = drop_all i fs l in
+      let n = none_left h.sized q in
+      sym (take_all at b (omega (arith, n, h.long, h.room))) ∙ sym (append-nil (take at b)) ∙ (rw q at h.bytes)

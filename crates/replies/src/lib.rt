@@ -1,10 +1,9 @@
 // The reply: accepted with its counts, or refused with one reason that holds its own place; and its bytes.
 #![tactic(auto)]
 
-ghost use Rattle.std.specs.Prelude.{◌≡◌, ◌+◌, ◌≤◌, length};
-ghost use Rattle.base.specs.Bytes.{le_bytes};
+ghost use Rattle.std.specs.Prelude.{◌≡◌};
 ghost use Rattle.base.specs.Blocks.{copied};
-ghost use Rattle.replies.specs.Reply.{number_of, place_of, expected_of, counts_of, reply_bytes};
+ghost use Rattle.replies.specs.Reply.{number_of, place_of, expected_of, counts_of, reply_of, reply_bytes};
 
 // "number and counts 4 bytes each", place 8 and expected 4.
 const WORD_SIZE: usize = 4;
@@ -14,7 +13,7 @@ const PLACE_SIZE: usize = 8;
 const REPLY_SIZE: usize = PLACE_SIZE + 6 * WORD_SIZE;
 
 // "the counts total, kept, made, given up"
-#[derive(Clone, Copy)]
+#[derive(Clone, Copy, Debug, Default, PartialEq, Eq)]
 pub struct Counts {
     pub total: u32,
     pub kept: u32,
@@ -23,7 +22,7 @@ pub struct Counts {
 }
 
 // Why a call is refused, each reason with its own place.
-#[derive(Clone, Copy)]
+#[derive(Clone, Copy, Debug, PartialEq, Eq)]
 pub enum Reason {
     BadGrammar(u64),
     UselessSymbol(u64),
@@ -39,10 +38,22 @@ pub enum Reason {
 }
 
 // "A reply is either accepted with its counts, or refused with one reason that holds its own place."
-#[derive(Clone, Copy)]
+#[derive(Clone, Copy, Debug, PartialEq, Eq)]
 pub enum Reply {
     Accepted(Counts),
     Refused(Reason),
+}
+
+// What a call comes to, as a reply.
+impl From<Result<Counts, Reason>> for Reply {
+    ghost from_gives = { λ call reply. reply ≡ reply_of call };
+
+    fn from(call: Result<Counts, Reason>) -> Reply {
+        match call {
+            Ok(counts) => Reply::Accepted(counts),
+            Err(reason) => Reply::Refused(reason),
+        }
+    }
 }
 
 pub fn number_of(reply: Reply) -> u64
@@ -70,20 +81,17 @@ pub fn place_of(reply: Reply) -> u64
     ensures { result ≡ place_of reply }
 {
     match reply {
-        Reply::Accepted(_) => 0,
-        Reply::Refused(reason) => match reason {
-            Reason::BadGrammar(place) => place,
-            Reason::UselessSymbol(place) => place,
-            Reason::NotLl1(place) => place,
-            Reason::WrongTables => 0,
-            Reason::WrongTree => 0,
-            Reason::ShortWork(place) => place,
-            Reason::BadToken(place) => place,
-            Reason::BeyondTokens(place) => place,
-            Reason::Syntax(place, _) => place,
-            Reason::NoRoom => 0,
-            Reason::ShortOutput(place) => place,
-        },
+        Reply::Refused(
+            Reason::BadGrammar(place)
+            | Reason::UselessSymbol(place)
+            | Reason::NotLl1(place)
+            | Reason::ShortWork(place)
+            | Reason::BadToken(place)
+            | Reason::BeyondTokens(place)
+            | Reason::Syntax(place, _)
+            | Reason::ShortOutput(place),
+        ) => place,
+        _ => 0,
     }
 }
 
@@ -91,20 +99,8 @@ pub fn expected_of(reply: Reply) -> u32
     ensures { result ≡ expected_of reply }
 {
     match reply {
-        Reply::Accepted(_) => 0,
-        Reply::Refused(reason) => match reason {
-            Reason::BadGrammar(_) => 0,
-            Reason::UselessSymbol(_) => 0,
-            Reason::NotLl1(_) => 0,
-            Reason::WrongTables => 0,
-            Reason::WrongTree => 0,
-            Reason::ShortWork(_) => 0,
-            Reason::BadToken(_) => 0,
-            Reason::BeyondTokens(_) => 0,
-            Reason::Syntax(_, expected) => expected,
-            Reason::NoRoom => 0,
-            Reason::ShortOutput(_) => 0,
-        },
+        Reply::Refused(Reason::Syntax(_, expected)) => expected,
+        _ => 0,
     }
 }
 
@@ -113,26 +109,7 @@ fn counts_of(reply: Reply) -> Counts
 {
     match reply {
         Reply::Accepted(counts) => counts,
-        Reply::Refused(_) => Counts {
-            total: 0,
-            kept: 0,
-            made: 0,
-            given_up: 0,
-        },
-    }
-}
-
-// Writes v in k bytes at `at`, little-endian, as much of it as fits.
-fn put(b: &mut [u8], at: usize, k: usize, v: u64)
-    requires { at + k ≤ length b.old }
-    ensures { b.new ≡ copied b.old at (le_bytes k v) }
-{
-    let mut x = v;
-    let mut i: usize = 0;
-    while i < k {
-        b[at + i] = (x % 256) as u8;
-        x = x / 256;
-        i += 1;
+        Reply::Refused(_) => Counts::default(),
     }
 }
 
@@ -141,38 +118,21 @@ pub fn write_reply(reply: Reply, out: &mut [u8])
     ensures { out.new ≡ copied out.old 0 (reply_bytes reply) }
 {
     let counts = counts_of(reply);
+    // Each field's size, and its value
+    let fields = [
+        (WORD_SIZE, number_of(reply)),
+        (PLACE_SIZE, place_of(reply)),
+        (WORD_SIZE, u64::from(expected_of(reply))),
+        (WORD_SIZE, u64::from(counts.total)),
+        (WORD_SIZE, u64::from(counts.kept)),
+        (WORD_SIZE, u64::from(counts.made)),
+        (WORD_SIZE, u64::from(counts.given_up)),
+    ];
     let mut b = [0u8; REPLY_SIZE];
-    put(&mut b, 0, WORD_SIZE, number_of(reply));
-    put(&mut b, WORD_SIZE, PLACE_SIZE, place_of(reply));
-    put(
-        &mut b,
-        WORD_SIZE + PLACE_SIZE,
-        WORD_SIZE,
-        expected_of(reply) as u64,
-    );
-    put(
-        &mut b,
-        2 * WORD_SIZE + PLACE_SIZE,
-        WORD_SIZE,
-        counts.total as u64,
-    );
-    put(
-        &mut b,
-        3 * WORD_SIZE + PLACE_SIZE,
-        WORD_SIZE,
-        counts.kept as u64,
-    );
-    put(
-        &mut b,
-        4 * WORD_SIZE + PLACE_SIZE,
-        WORD_SIZE,
-        counts.made as u64,
-    );
-    put(
-        &mut b,
-        5 * WORD_SIZE + PLACE_SIZE,
-        WORD_SIZE,
-        counts.given_up as u64,
-    );
+    let mut at = 0;
+    for (size, v) in fields {
+        b[at..at + size].copy_from_slice(&v.to_le_bytes()[..size]);
+        at += size;
+    }
     base::copy(out, 0, &b);
 }

@@ -1,12 +1,12 @@
 use borrow.Author.Rules.{rules}
-use Rattle.editing.specs.Editing.{finds_none, finds_short, walk_tree, walk_none}
+use Rattle.editing.specs.Editing.{finds_none, short, walk_tree, walk_none}
 use Rattle.editing.proofs.old_tree.Goals as goal
 
 pub returns-then-is_tree : goal.returns-then-is_tree
-returns-then-is_tree c = finds_short (c.is_tree.ensures.yes (search rules)) (search rules)
+returns-then-is_tree c = short _ (search rules) (c.is_tree.ensures.yes (search rules)) (search rules)
 
-pub returns-then-work-tree : goal.returns-then-work-tree
-returns-then-work-tree c = finds_none (c.is_tree.ensures.no (search rules))
+pub returns-then-work-need : goal.returns-then-work-need
+returns-then-work-need c = finds_none (c.is_tree.ensures.no (search rules))
 
 pub read_tree-requires : goal.read_tree-requires
 read_tree-requires c = let z = c.requires.0 in (z.some, z.few, z.long, search rules, c.requires.1)

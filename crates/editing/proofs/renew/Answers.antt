@@ -1,24 +1,16 @@
-use borrow.Author.Rules.{rules}
+use Rattle.std.proofs.lemmas.Result.{err_from_is_err_and}
 use Rattle.altering.specs.Treed.{treed_few}
-use Rattle.editing.specs.Editing.{renews_syntax, renews_no_room, renews_altered, few_fit}
+use Rattle.editing.specs.Editing.{mapped_ok, mapped_err, renews_refused, renews_altered, few_fit}
 use Rattle.editing.proofs.renew.Goals as goal
 
-pub alter-requires : goal.alter-requires
-alter-requires c =
-    c.requires
+pub returns-in_err-altered : goal.returns-in_err-altered
+returns-in_err-altered c =
+    let p = err_from_is_err_and c.from_residual.result c.from_residual.ensures.1 in
+    let e = mapped_err _ c.alter.result _ c.map_err.ensures.cases c.in_err-altered.was in
+    rw (p.1, p.2, e.2) (renews_refused c.alter.ensures.0 e.0 e.1)
 
-pub accepted-requires : goal.accepted-requires
-accepted-requires c =
-    few_fit _ _ c.alter.ensures.1 (treed_few _ _ _ _ _ _ c.requires.2) (search rules)
+pub counts_of-requires : goal.counts_of-requires
+counts_of-requires c = few_fit _ c.alter.ensures.1 (treed_few _ _ _ _ _ _ c.requires.2) (mapped_ok _ c.alter.result _ c.map_err.ensures.cases c.in_ok-altered.was)
 
-pub returns-in-Altered : goal.returns-in-Altered
-returns-in-Altered c =
-    renews_altered c.alter.ensures.0 _ _ _ _ _ c.requires.2 (search rules) c.accepted.ensures
-
-pub returns-in-Syntax : goal.returns-in-Syntax
-returns-in-Syntax c =
-    renews_syntax c.alter.ensures.0 _ _ (search rules)
-
-pub returns-in-NoRoom : goal.returns-in-NoRoom
-returns-in-NoRoom c =
-    renews_no_room c.alter.ensures.0 (search rules)
+pub returns : goal.returns
+returns c = renews_altered c.alter.ensures.0 _ _ _ _ c.requires.2 (mapped_ok _ c.alter.result _ c.map_err.ensures.cases c.in_ok-altered.was) c.counts_of.ensures
