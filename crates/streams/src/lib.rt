@@ -17,6 +17,7 @@ pub fn read_full<R: Read>(input: &mut R, buf: &mut [u8]) -> Result<usize>
     ensures len { length buf.new ≡ length buf.old }
 {
     let mut done = 0;
+    // A `while`: the step is as many bytes as a read gives, which no range counts.
     while done < buf.len() {
         let n = input.read(&mut buf[done..])?;
         if n == 0 {
