@@ -93,6 +93,7 @@ fn all_symbols(b: &[u8], last: usize) -> bool
 }
 
 // The size of the production record that stands first.
+#[tactic(auto, using(crate::specs::Reading::starting))]
 fn production_size(rest: &[u8], t: usize, n: usize) -> Option<usize>
     requires { (t ≤ max_terminals) × (n ≤ max_nonterminals) }
     ensures { Starts t n rest.now result × IfSome result (λ size. size ≤ length rest.now) }
