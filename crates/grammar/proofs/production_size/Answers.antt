@@ -12,6 +12,6 @@ returns-then-not-all_symbols c =
 pub returns : goal.returns
 returns c = (
   starts_good _ _ _ _ _ _ (search rules) (search rules) (search rules) c.from-left.ensures (search rules) (search rules) c.from-length.ensures (search rules)
-  c.in_ok-body.ensures.lookup.0.1 (rw (part_body c.args.t c.args.n c.args.rest.now _ _ c.in_ok-body.ensures.lookup.0.2) at c.all_symbols.ensures) c.if-not-all_symbols.false,
+      c.in_ok-body.ensures.lookup.0.1 (rw (part_body c.args.t c.args.n c.args.rest.now _ _ c.in_ok-body.ensures.lookup.0.2) at c.all_symbols.ensures) c.if-not-all_symbols.false,
   search rules,
 )
