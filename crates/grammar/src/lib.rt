@@ -201,6 +201,7 @@ pub const REFERENCE: [u8; 49] = [
 ];
 
 // The reference grammar, by the same reader as any lent image.
+#[tactic(auto, using(crate::specs::Reference::reference_read), unfolding(crate::specs::Reference::reference_image))]
 pub fn read_reference(rows: &mut [u8; ROWS_SIZE]) -> Result<Head, BadRecord>
     ensures { (result ≡ Ok (head_of reference)) × (rows.new ≡ rows_of reference.productions) }
 {
