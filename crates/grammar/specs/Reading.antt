@@ -44,8 +44,6 @@ module _ (b : List ℕ) where
   pub head_wrong : (t n s : ℕ) → t ≡ get_or b 2 0 → n ≡ get_or b 3 0 → s ≡ get_or b 4 0 → (AllowedHead t n s → ⊥) → HeadFirst b → ⊥
   head_wrong t n s et en es k h = k (rw (et, en, es) (allowed_of h))
 
-pub ruleset heads = (head_short, head_mark_lem, head_mark2, head_wrong)
-
 -- the image has a head, and it says t, n and s
 pub record Headed (bytes : List ℕ) (t n s : ℕ) : Type 0 where
   pub allowed : AllowedHead t n s
@@ -74,6 +72,8 @@ module _ (b : List ℕ) where
 pub data HeadRead (bytes : List ℕ) : Option Head → Type 0 where
   head_read : (h : Head) → Headed bytes h.t h.n h.start → h.count ≡ 0 → HeadRead bytes (Some h)
   head_none : (HeadFirst bytes → ⊥) → HeadRead bytes None
+
+pub ruleset heads = (head_short, head_mark_lem, head_mark2, head_wrong, head_none, head_read, headed)
 
 pub headed_of : {bytes : List ℕ} {h : Head} → HeadRead bytes (Some h) → Headed bytes h.t h.n h.start
 headed_of (head_read h a z) = a

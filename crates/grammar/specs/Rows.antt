@@ -196,39 +196,13 @@ start_small rows head f = omega (arith, f.head.terminals.1, f.head.nonterminals.
 -- ---- reading a row, as the code does it
 
 module _ (rows : List ℕ) (p : ℕ) where
-  row_byte : (j : ℕ) → j < row_size → get_or (row_at rows p) j 0 ≡ get_or rows (p * row_size + j) 0
-  row_byte j l = get_or-take row_size (drop (p * row_size) rows) j 0 l ∙ get_or-drop (p * row_size) rows j 0
+  pub row_byte : (j b : ℕ) → j < row_size → b ≡ get_or rows (p * row_size + j) 0 → b ≡ get_or (row_at rows p) j 0
+  row_byte j b l e = e ∙ sym (get_or-take row_size (drop (p * row_size) rows) j 0 l ∙ get_or-drop (p * row_size) rows j 0)
 
-  row_none : (j : ℕ) → length rows / row_size < p → 0 ≡ get_or (row_at rows p) j 0
+  pub row_none : (j : ℕ) → length rows / row_size < p → 0 ≡ get_or (row_at rows p) j 0
   row_none j l =
       let q : drop (p * row_size) rows ≡ [] = drop_of_length-le rows {i = p * row_size} (omega arith) in
       sym (ap (λ (u : List ℕ). get_or (take row_size u) j 0) q)
-
-  pub left_in : (b : ℕ) → b ≡ get_or rows (p * row_size) 0 → b % symbol_space ≡ left_at rows p
-  unfolding left_at
-  left_in b e = let q : p * row_size + 0 ≡ p * row_size = omega arith in ap (λ (x : ℕ). x % symbol_space) (e ∙ sym (row_byte 0 (omega arith) ∙ ap (λ (k : ℕ). get_or rows k 0) q))
-
-  pub left_out : length rows / row_size < p → 0 ≡ left_at rows p
-  unfolding left_at
-  left_out l = omega (arith, row_none 0 l)
-
-  pub length_in : (b : ℕ) → b ≡ get_or rows (p * row_size + 1) 0 → b % body_space ≡ length_at rows p
-  unfolding length_at
-  length_in b e = ap (λ (x : ℕ). x % body_space) (e ∙ sym (row_byte 1 (omega arith)))
-
-  pub length_out : length rows / row_size < p → 0 ≡ length_at rows p
-  unfolding length_at
-  length_out l = omega (arith, row_none 1 l)
-
-  pub symbol_in_lem : (b j : ℕ) → j < max_body → b ≡ get_or rows (p * row_size + 2 + j) 0 → b % symbol_space ≡ symbol_at rows p j
-  unfolding symbol_at
-  symbol_in_lem b j l e =
-      let q : p * row_size + (2 + j) ≡ p * row_size + 2 + j = omega arith in
-      ap (λ (x : ℕ). x % symbol_space) (e ∙ sym (row_byte (2 + j) (omega arith) ∙ ap (λ (k : ℕ). get_or rows k 0) q))
-
-  pub symbol_out : (j : ℕ) → length rows / row_size < p → 0 ≡ symbol_at rows p j
-  unfolding symbol_at
-  symbol_out j l = omega (arith, row_none (2 + j) l)
 
   pub symbol_past : (j : ℕ) → max_body ≤ j → 0 ≡ symbol_at rows p j
   unfolding symbol_at
@@ -236,7 +210,7 @@ module _ (rows : List ℕ) (p : ℕ) where
       let q : get_or (row_at rows p) (2 + j) 0 ≡ 0 = get_or-eq_default (row_at rows p) 0 {n = 2 + j} (omega (arith, length-take row_size (drop (p * row_size) rows))) in
       omega arith
 
-pub ruleset row_reads = (left_in, left_out, length_in, length_out, symbol_in_lem, symbol_out, symbol_past)
+pub ruleset row_reads = (row_byte, row_none, symbol_past)
 
 -- ---- whatever the bytes, symbols and lengths are small
 

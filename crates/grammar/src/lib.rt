@@ -1,13 +1,13 @@
 // The reader of grammar images, the rows that it leaves, and the reference grammar.
 #![tactic(auto)]
 
-ghost use Rattle.std.specs.Prelude.{◌≡◌, ◌+◌, ◌<◌, ◌≤◌, length, IfSome, MatchResult};
+ghost use Rattle.std.specs.Prelude.{◌≡◌, ◌+◌, ◌<◌, ◌≤◌, length, get_or, IfSome, MatchResult};
 ghost use Rattle.base.specs.Tells.{Tells};
 ghost use Rattle.base.specs.Blocks.{zeros};
 ghost use Rattle.grammar.specs.Limits.{max_terminals, max_nonterminals};
 ghost use Rattle.grammar.specs.Grammar.{AllowedHead};
 ghost use Rattle.grammar.specs.Image.{Bad};
-ghost use Rattle.grammar.specs.Rows.{rows_size, symbol_space, body_space, rows_of, head_of, left_at, length_at, symbol_at};
+ghost use Rattle.grammar.specs.Rows.{row_size, rows_size, symbol_space, body_space, row_at, rows_of, head_of, left_at, length_at, symbol_at};
 ghost use Rattle.grammar.specs.Reading.{Headed, HeadRead, Symbols, Starts};
 ghost use Rattle.grammar.specs.Outcome.{Reads};
 ghost use Rattle.grammar.specs.Reference.{reference};
@@ -65,6 +65,7 @@ fn head_allowed(t: usize, n: usize, s: usize) -> bool
 }
 
 // The head that the image begins with, and no production yet.
+#[tactic(auto, using(crate::specs::Reading::heads))]
 fn read_head(image: &[u8]) -> Option<Head>
     ensures { HeadRead image.now result }
 {
@@ -93,6 +94,7 @@ fn all_symbols(b: &[u8], last: usize) -> bool
 }
 
 // The size of the production record that stands first.
+#[tactic(auto, using(crate::specs::Reading::starting))]
 fn production_size(rest: &[u8], t: usize, n: usize) -> Option<usize>
     requires { (t ≤ max_terminals) × (n ≤ max_nonterminals) }
     ensures { Starts t n rest.now result × IfSome result (λ size. size ≤ length rest.now) }
@@ -149,40 +151,45 @@ pub fn read_grammar(image: &[u8], rows: &mut [u8; ROWS_SIZE]) -> Result<Head, Ba
     outcome
 }
 
-// The left side of the production in row p, counted from 0.
+// Byte j of row p, counted from 0.
+#[tactic(auto, using(crate::specs::Rows::row_reads))]
+fn row_byte(rows: &[u8], p: usize, j: usize) -> usize
+    requires { j < row_size }
+    ensures { result ≡ get_or (row_at rows.now p) j 0 }
+{
+    if p <= rows.len() / ROW_SIZE {
+        base::byte_at(rows, p * ROW_SIZE + j)
+    } else {
+        0
+    }
+}
+
+// The left side of the production in row p.
+#[tactic(auto, unfolding(crate::specs::Rows::left_at))]
 pub fn left_at(rows: &[u8], p: usize) -> usize
     ensures { (result ≡ left_at rows.now p) × (result < symbol_space) }
 {
-    if p <= rows.len() / ROW_SIZE {
-        let b = base::byte_at(rows, p * ROW_SIZE);
-        return b % SYMBOL_SPACE;
-    }
-    0
+    row_byte(rows, p, 0) % SYMBOL_SPACE
 }
 
 // The length of its body.
+#[tactic(auto, unfolding(crate::specs::Rows::length_at))]
 pub fn length_at(rows: &[u8], p: usize) -> usize
     ensures { (result ≡ length_at rows.now p) × (result < body_space) }
 {
-    if p <= rows.len() / ROW_SIZE {
-        let b = base::byte_at(rows, p * ROW_SIZE + 1);
-        return b % BODY_SPACE;
-    }
-    0
+    row_byte(rows, p, 1) % BODY_SPACE
 }
 
 // Symbol j of its body.
+#[tactic(auto, using(crate::specs::Rows::row_reads), unfolding(crate::specs::Rows::symbol_at))]
 pub fn symbol_at(rows: &[u8], p: usize, j: usize) -> usize
     ensures { (result ≡ symbol_at rows.now p j) × (result < symbol_space) }
 {
-    if rows.len() / ROW_SIZE < p {
-        return 0;
+    if j < MAX_BODY {
+        row_byte(rows, p, 2 + j) % SYMBOL_SPACE
+    } else {
+        0
     }
-    if MAX_BODY <= j {
-        return 0;
-    }
-    let b = base::byte_at(rows, p * ROW_SIZE + 2 + j);
-    b % SYMBOL_SPACE
 }
 
 // "The reference grammar is built in as a constant table of 49 bytes".
@@ -194,6 +201,7 @@ pub const REFERENCE: [u8; 49] = [
 ];
 
 // The reference grammar, by the same reader as any lent image.
+#[tactic(auto, using(crate::specs::Reference::reference_read), unfolding(crate::specs::Reference::reference_image))]
 pub fn read_reference(rows: &mut [u8; ROWS_SIZE]) -> Result<Head, BadRecord>
     ensures { (result ≡ Ok (head_of reference)) × (rows.new ≡ rows_of reference.productions) }
 {

@@ -1,5 +1,5 @@
 -- The lowest nonterminal that is not both productive and reachable.
-use Rattle.std.specs.Prelude.{ℕ, ◌+◌, ◌-◌, ◌%◌, ◌≤◌, ◌<◌, ◌≡◌, refl, ◌⊎◌, List, get_or}
+use Rattle.std.specs.Prelude.{ℕ, ◌+◌, ◌-◌, ◌%◌, ◌≤◌, ◌<◌, ◌≡◌, Option, Some, None, ◌⊎◌, List, get_or}
 use Rattle.std.proofs.Math.Logic.{by_cases}
 use Rattle.std.proofs.Common.{inl, inr, arith}
 use Rattle.std.proofs.Math.Decide.{ℕ_discrete}
@@ -27,10 +27,10 @@ busy_three s X b = omega (arith, b.made.is, b.reached.is)
 pub record BusyTo (s : List ℕ) (t x : ℕ) : Type 0 where
   pub all : (Y : ℕ) → t < Y → Y ≤ x → Busy s Y
 
--- the lowest nonterminal that is not busy, or 0
-pub data Idle (s : List ℕ) (t n : ℕ) : ℕ → Type 0 where
-  none : BusyTo s t (t + n) → Idle s t n 0
-  some : {X : ℕ} → t < X → X ≤ t + n → (Busy s X → ⊥) → BusyTo s t (X - 1) → Idle s t n X
+-- the lowest nonterminal that is not busy
+pub data Idle (s : List ℕ) (t n : ℕ) : Option ℕ → Type 0 where
+  none : BusyTo s t (t + n) → Idle s t n None
+  some : {X : ℕ} → t < X → X ≤ t + n → (Busy s X → ⊥) → BusyTo s t (X - 1) → Idle s t n (Some X)
 
 module _ (s : List ℕ) (t : ℕ) where
   pub busy_none : BusyTo s t t
@@ -39,13 +39,18 @@ module _ (s : List ℕ) (t : ℕ) where
   pub busy_more : (x : ℕ) → get_or s (marks + (x + 1)) 0 % 4 ≡ 3 → BusyTo s t x → BusyTo s t (x + 1)
   busy_more x e h = record { all = λ Y l m. by_cases (ℕ_discrete Y (x + 1)) (λ q. rw q (three_busy s (x + 1) e)) (λ q. h.all Y l (omega arith)) }
 
-  pub idle_some : (n x : ℕ) → t ≤ x → x < t + n → (get_or s (marks + (x + 1)) 0 % 4 ≡ 3 → ⊥) → BusyTo s t x → Idle s t n (x + 1)
-  idle_some n x l m e h = let q : x + 1 - 1 ≡ x = omega arith in some {X = x + 1} (omega arith) (omega arith) (λ b. e (busy_three s (x + 1) b)) (rw q h)
+  -- the search up to x, which comes next
+  pub busy_first : (x : ℕ) → x ≡ t + 1 → BusyTo s t (x - 1)
+  busy_first x e = let q : x - 1 ≡ t = omega arith in rw q busy_none
 
-  pub idle_none : (n x : ℕ) → t + n ≤ x → x ≤ t + n → BusyTo s t x → Idle s t n 0
-  idle_none n x l m h = let q : x ≡ t + n = omega arith in none (rw q at h)
+  pub busy_next : (x : ℕ) → 0 < x → get_or s (marks + x) 0 % 4 ≡ 3 → BusyTo s t (x - 1) → BusyTo s t (x + 1 - 1)
+  busy_next x l e h = let q : x - 1 + 1 ≡ x = omega arith in let r : x + 1 - 1 ≡ x - 1 + 1 = omega arith in rw r (busy_more (x - 1) (rw q e) h)
 
-pub ruleset idling = (busy_none, busy_more, idle_some, idle_none)
+  pub idle_some : (n x : ℕ) → t < x → x ≤ t + n → (get_or s (marks + x) 0 % 4 ≡ 3 → ⊥) → BusyTo s t (x - 1) → Idle s t n (Some x)
+  idle_some n x l m e h = some l m (λ b. e (busy_three s x b)) h
+
+  pub idle_none : (n x : ℕ) → x ≡ t + n → BusyTo s t x → Idle s t n None
+  idle_none n x e h = none (rw e at h)
 
 -- ---- what that says of a grammar
 
@@ -68,11 +73,9 @@ module _ {G : Grammar} {s : List ℕ} (k : Known G s) (f : WellFormed G) where
       (λ a. record { nonterminal = m; fault = inl (λ p. a ((known_made k M (small m)).1 p)) })
 
   -- reply 2's place, or no useless nonterminal
-  pub idle_lowest : {r : ℕ} → Idle s G.t G.n r → (r ≡ 0 → ⊥) → Lowest (Useless G) r
-  idle_lowest (none h) n = absurd (n refl)
-  idle_lowest (some l m e h) n =
+  pub idle_lowest : {X : ℕ} → Idle s G.t G.n (Some X) → Lowest (Useless G) X
+  idle_lowest (some l m e h) =
       record { holds = idle_useless (l, m) e; first = λ N i u. busy_useful u.nonterminal (h.all N u.nonterminal.0 (omega arith)) u }
 
-  pub idle_useful : {r : ℕ} → Idle s G.t G.n r → r ≡ 0 → (M : ℕ) → Useless G M → ⊥
-  idle_useful (none h) e M u = busy_useful u.nonterminal (h.all M u.nonterminal.0 u.nonterminal.1) u
-  idle_useful (some l m n h) e M u = absurd (omega arith)
+  pub idle_useful : Idle s G.t G.n None → (M : ℕ) → Useless G M → ⊥
+  idle_useful (none h) M u = busy_useful u.nonterminal (h.all M u.nonterminal.0 u.nonterminal.1) u

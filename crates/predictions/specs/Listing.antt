@@ -1,17 +1,17 @@
 -- Listing the productions in the cells of the predictions, one after the other, and the lowest nonterminal in conflict on the way.
-use Rattle.std.specs.Prelude.{ℕ, suc, ◌+◌, ◌-◌, ◌*◌, ◌≤◌, ◌<◌, ◌≡◌, refl, ◌⊎◌, List, length, set, eqb, ltb}
+use Rattle.std.specs.Prelude.{ℕ, suc, ◌+◌, ◌-◌, ◌*◌, ◌≤◌, ◌<◌, ◌≡◌, refl, Bool, true, false, not, ◌||◌, Option, Some, None, unwrap_or, min, ◌⊎◌, List, length, set, eqb}
 use Rattle.std.proofs.Math.Path.{sym}
 use Rattle.std.proofs.Common.{ap, ◌∙◌, inl, inr, length-set, get_or-set_same, get_or-set_other, arith}
 use Rattle.std.proofs.Math.Logic.{by_cases}
 use Rattle.std.proofs.Math.ListN.{get_or}
-use borrow.Author.Tests.{ne_eqb, eqb-true, eqb-false, ltb-true, ltb-false}
+use borrow.Author.Tests.{eqb-true, eqb-false}
 use Rattle.std.proofs.Math.Decide.{ℕ_discrete, dec_lt}
-use Rattle.base.specs.Choose.{choose, choose_of}
+use Rattle.base.specs.Choose.{never}
 use Rattle.base.specs.Bits.{Has, has?}
 use Rattle.base.specs.Blocks.{zeros, length_zeros, byte_zeros}
 use Rattle.grammar.specs.Limits.{max_nonterminals, columns}
 use Rattle.grammar.specs.Rows.{left_at}
-use Rattle.predictions.specs.Hits.{hasb, hasb_has, has_hasb, predictors, Hit, Clash}
+use Rattle.predictions.specs.Hits.{hasb, hasb_has, hasb_not, predictors, Hit, Clash}
 
 -- a row for each nonterminal that a grammar may have
 abbrev pub cells_size : ℕ
@@ -19,26 +19,18 @@ cells_size = max_nonterminals * columns
 
 -- ---- one production, along its row
 
--- a cell where a production is listed
-unfoldable pub listed : ℕ → ℕ → ℕ → ℕ → ℕ
-listed w a old new = choose (hasb w a) (λ _. new) (λ _. old)
-
--- 1 if another was listed there before
-unfoldable pub crowded : ℕ → ℕ → ℕ → ℕ
-crowded w a old = choose (hasb w a) (λ _. choose (eqb old 0) (λ _. 0) (λ _. 1)) (λ _. 0)
-
--- the first k columns of the row at `at` list `new` where w has them; c is not 0 exactly if another was there
-pub record Marked (w new at k : ℕ) (s s' : List ℕ) (c : ℕ) : Type 0 where
+-- the first k columns of the row at `at` list `new` where w has them; c says whether another was there
+pub record Marked (w new at k : ℕ) (s s' : List ℕ) (c : Bool) : Type 0 where
   pub long : length s' ≡ length s
   pub lists : (a : ℕ) → a < k → Has w a → get_or s' (at + a) 0 ≡ new
   pub leaves : (a : ℕ) → a < k → (Has w a → ⊥) → get_or s' (at + a) 0 ≡ get_or s (at + a) 0
   pub before : (j : ℕ) → j < at → get_or s' j 0 ≡ get_or s j 0
   pub behind : (j : ℕ) → at + k ≤ j → get_or s' j 0 ≡ get_or s j 0
-  pub quiet : c ≡ 0 → (a : ℕ) → a < k → Has w a → get_or s (at + a) 0 ≡ 0
-  pub loud : (c ≡ 0 → ⊥) → (a : ℕ) × (a < k) × Has w a × (get_or s (at + a) 0 ≡ 0 → ⊥)
+  pub quiet : c ≡ false → (a : ℕ) → a < k → Has w a → get_or s (at + a) 0 ≡ 0
+  pub loud : c ≡ true → (a : ℕ) × (a < k) × Has w a × (get_or s (at + a) 0 ≡ 0 → ⊥)
 
 module _ (w new at : ℕ) (s : List ℕ) where
-  pub marked_none : Marked w new at 0 s s 0
+  pub marked_none : Marked w new at 0 s s false
   marked_none =
       record {
         long = refl;
@@ -47,58 +39,62 @@ module _ (w new at : ℕ) (s : List ℕ) where
         before = λ j l. refl;
         behind = λ j l. refl;
         quiet = λ e a l. absurd (omega arith);
-        loud = λ n. absurd (n refl);
+        loud = λ e. never (cc);
       }
 
-  module _ (s' : List ℕ) (k c v d : ℕ) (l : at + k < length s') (ev : v ≡ listed w k (get_or s' (at + k) 0) new) (ed : d ≡ crowded w k (get_or s' (at + k) 0)) (h : Marked w new at k s s' c) where
+  module _ (s' : List ℕ) (k : ℕ) (c : Bool) (h : Marked w new at k s s' c) where
     old : get_or s' (at + k) 0 ≡ get_or s (at + k) 0
     old = h.behind (at + k) (omega arith)
 
-    value_yes : Has w k → v ≡ new
-    unfolding listed choose
-    value_yes q = ev ∙ rw (has_hasb w k q)
+    -- a cell where the production is listed
+    module _ (l : at + k < length s') (q : hasb w k ≡ true) where
+      crowd : (d : Bool) → (d ≡ false → get_or s' (at + k) 0 ≡ 0) → (d ≡ true → get_or s' (at + k) 0 ≡ 0 → ⊥)
+          → Marked w new at (k + 1) s (set s' (at + k) new) (c || d)
+      crowd d none some =
+          record {
+            long = simp length-set h.long;
+            lists = λ a m x. by_cases (ℕ_discrete a k) (λ e. rw (e, get_or-set_same s' (at + k) new 0 l))
+                (λ e. get_or-set_other s' (at + k) (at + a) new 0 (omega arith) ∙ h.lists a (omega arith) x);
+            leaves = λ a m n. by_cases (ℕ_discrete a k) (λ e. absurd (n (rw e (hasb_has w k q))))
+                (λ e. get_or-set_other s' (at + k) (at + a) new 0 (omega arith) ∙ h.leaves a (omega arith) n);
+            before = λ j m. get_or-set_other s' (at + k) j new 0 (omega arith) ∙ h.before j m;
+            behind = λ j m. get_or-set_other s' (at + k) j new 0 (omega arith) ∙ h.behind j (omega arith);
+            quiet = quiet c d none h.quiet;
+            loud = loud c d some h.loud;
+          }
+        where
+          quiet : (c d : Bool) → (d ≡ false → get_or s' (at + k) 0 ≡ 0) → (c ≡ false → (a : ℕ) → a < k → Has w a → get_or s (at + a) 0 ≡ 0)
+              → c || d ≡ false → (a : ℕ) → a < k + 1 → Has w a → get_or s (at + a) 0 ≡ 0
+          quiet true d none g e a m x = never (cc)
+          quiet false d none g e a m x = by_cases (ℕ_discrete a k) (λ z. rw z (sym old ∙ none e)) (λ z. g refl a (omega arith) x)
 
-    value_no : (Has w k → ⊥) → v ≡ get_or s' (at + k) 0
-    unfolding listed
-    value_no n = ev ∙ choose_of (λ r. r ≡ get_or s' (at + k) 0) (hasb w k) _ _ (λ e. absurd (n (hasb_has w k e))) (λ _. refl)
+          loud : (c d : Bool) → (d ≡ true → get_or s' (at + k) 0 ≡ 0 → ⊥) → (c ≡ true → (a : ℕ) × (a < k) × Has w a × (get_or s (at + a) 0 ≡ 0 → ⊥))
+              → c || d ≡ true → (a : ℕ) × (a < k + 1) × Has w a × (get_or s (at + a) 0 ≡ 0 → ⊥)
+          loud true d some g e = let x = g refl in (x.0, omega (arith, x.1), x.2, x.3)
+          loud false d some g e = (k, omega arith, hasb_has w k q, λ z. some e (old ∙ z))
 
-    crowd_none : d ≡ 0 → Has w k → get_or s (at + k) 0 ≡ 0
-    unfolding crowded choose
-    crowd_none z q =
-        let e : d ≡ choose (eqb (get_or s' (at + k) 0) 0) (λ _. 0) (λ _. 1) = ed ∙ rw (has_hasb w k q) in
-        by_cases (ℕ_discrete (get_or s' (at + k) 0) 0) (λ y. sym old ∙ y)
-        (λ y. let f : d ≡ 1 = e ∙ rw (ne_eqb (get_or s' (at + k) 0) 0 y) in absurd (omega arith))
+      pub marked_yes : Marked w new at (k + 1) s (set s' (at + k) new) (c || not (eqb (get_or s' (at + k) 0) 0))
+      marked_yes = go (eqb (get_or s' (at + k) 0) 0) (eqb-true (get_or s' (at + k) 0) 0) (eqb-false (get_or s' (at + k) 0) 0)
+        where
+          go : (b : Bool) → (b ≡ true → get_or s' (at + k) 0 ≡ 0) → (b ≡ false → get_or s' (at + k) 0 ≡ 0 → ⊥) → Marked w new at (k + 1) s (set s' (at + k) new) (c || not b)
+          go true same other = crowd false (λ _. same refl) (λ e. never (cc))
+          go false same other = crowd true (λ e. never (cc)) (λ _. other refl)
 
-    crowd_some : (d ≡ 0 → ⊥) → Has w k × (get_or s (at + k) 0 ≡ 0 → ⊥)
-    unfolding crowded
-    crowd_some n =
-        choose_of (λ r. d ≡ r → Has w k × (get_or s (at + k) 0 ≡ 0 → ⊥)) (hasb w k) _ _
-        (λ e. choose_of (λ r. d ≡ r → Has w k × (get_or s (at + k) 0 ≡ 0 → ⊥)) (eqb (get_or s' (at + k) 0) 0) _ _
-        (λ _ z. absurd (n z))
-        (λ f _. (hasb_has w k e, λ z. eqb-false (get_or s' (at + k) 0) 0 f (old ∙ z))))
-        (λ _ z. absurd (n z))
-        ed
-
-    pub marked_more : Marked w new at (k + 1) s (set s' (at + k) v) (c + d)
-    marked_more =
+    -- one where it is not
+    pub marked_no : hasb w k ≡ false → Marked w new at (k + 1) s s' c
+    marked_no q =
         record {
-          long = simp length-set h.long;
-          lists = λ a m q. by_cases (ℕ_discrete a k) (λ e. rw (e, get_or-set_same s' (at + k) v 0 l) (value_yes (rw e at q)))
-              (λ e. get_or-set_other s' (at + k) (at + a) v 0 (omega arith) ∙ h.lists a (omega arith) q);
-          leaves = λ a m n. by_cases (ℕ_discrete a k) (λ e. rw e (get_or-set_same s' (at + k) v 0 l ∙ value_no (λ q. n (rw e q)) ∙ old))
-              (λ e. get_or-set_other s' (at + k) (at + a) v 0 (omega arith) ∙ h.leaves a (omega arith) n);
-          before = λ j m. get_or-set_other s' (at + k) j v 0 (omega arith) ∙ h.before j m;
-          behind = λ j m. get_or-set_other s' (at + k) j v 0 (omega arith) ∙ h.behind j (omega arith);
-          quiet = λ e a m q. by_cases (ℕ_discrete a k) (λ z. rw z (crowd_none (omega arith) (rw z at q))) (λ z. h.quiet (omega arith) a (omega arith) q);
-          loud = λ n. by_cases (ℕ_discrete d 0)
-              (λ z. let q = h.loud (λ y. n (omega arith)) in (q.0, omega (arith, q.1), q.2, q.3))
-              (λ z. let q = crowd_some z in (k, omega arith, q.0, q.1));
+          long = h.long;
+          lists = λ a m x. by_cases (ℕ_discrete a k) (λ e. absurd (hasb_not w k q (rw e at x))) (λ e. h.lists a (omega arith) x);
+          leaves = λ a m n. by_cases (ℕ_discrete a k) (λ e. rw e old) (λ e. h.leaves a (omega arith) n);
+          before = h.before;
+          behind = λ j m. h.behind j (omega arith);
+          quiet = λ e a m x. by_cases (ℕ_discrete a k) (λ z. absurd (hasb_not w k q (rw z at x))) (λ z. h.quiet e a (omega arith) x);
+          loud = λ e. let x = h.loud e in (x.0, omega (arith, x.1), x.2, x.3);
         }
 
-  pub marked_all : (s' : List ℕ) (k c m : ℕ) → m ≤ k → k ≤ m → Marked w new at k s s' c → Marked w new at m s s' c
-  marked_all s' k c m l u h = let q : k ≡ m = omega arith in rw q at h
-
-pub ruleset marking = (marked_none, marked_more, marked_all)
+  pub marked_all : (s' : List ℕ) (k m : ℕ) (c : Bool) → k ≡ m → Marked w new at k s s' c → Marked w new at m s s' c
+  marked_all s' k m c e h = rw e at h
 
 -- ---- all productions
 
@@ -107,26 +103,22 @@ pub data Cell (rows s : List ℕ) (k M a : ℕ) : ℕ → Type 0 where
   empty : ((p : ℕ) → p < k → Hit rows s p M a → ⊥) → Cell rows s k M a 0
   full : {p : ℕ} → p < k → Hit rows s p M a → Cell rows s k M a (suc p)
 
--- the lowest nonterminal in conflict among the first k, or 0
-pub data Low (rows s : List ℕ) (k : ℕ) : ℕ → Type 0 where
-  none : ((M : ℕ) → Clash rows s k M → ⊥) → Low rows s k 0
-  some : {M : ℕ} → (M ≡ 0 → ⊥) → Clash rows s k M → ((N : ℕ) → N < M → Clash rows s k N → ⊥) → Low rows s k M
+-- the lowest nonterminal in conflict among the first k
+pub data Low (rows s : List ℕ) (k : ℕ) : Option ℕ → Type 0 where
+  none : ((M : ℕ) → Clash rows s k M → ⊥) → Low rows s k None
+  some : {M : ℕ} → Clash rows s k M → ((N : ℕ) → N < M → Clash rows s k N → ⊥) → Low rows s k (Some M)
 
 -- left sides are nonterminals that have a row
 abbrev pub Rowed : List ℕ → ℕ → ℕ → Type 0
 Rowed rows t count = (p : ℕ) → p < count → (t < left_at rows p) × (left_at rows p ≤ t + max_nonterminals)
 
-pub record Listed (rows s : List ℕ) (t k : ℕ) (cells : List ℕ) (low : ℕ) : Type 0 where
+pub record Listed (rows s : List ℕ) (t k : ℕ) (cells : List ℕ) (low : Option ℕ) : Type 0 where
   pub long : length cells ≡ cells_size
   pub cell : (R a : ℕ) → R < max_nonterminals → a < columns → Cell rows s k (t + 1 + R) a (get_or cells (R * columns + a) 0)
   pub conflict : Low rows s k low
 
--- the lower of two, where 0 stands for none
-unfoldable pub lower : ℕ → ℕ → ℕ → ℕ
-lower c low m = choose (eqb c 0) (λ _. low) (λ _. choose (eqb low 0) (λ _. m) (λ _. choose (ltb m low) (λ _. m) (λ _. low)))
-
 module _ (rows s : List ℕ) (t : ℕ) where
-  pub listed_none : (cells : List ℕ) → cells ≡ zeros cells_size → Listed rows s t 0 cells 0
+  pub listed_none : (cells : List ℕ) → cells ≡ zeros cells_size → Listed rows s t 0 cells None
   listed_none cells z =
       record {
         long = ap length z ∙ length_zeros cells_size;
@@ -135,7 +127,7 @@ module _ (rows s : List ℕ) (t : ℕ) where
       }
 
   -- one production more
-  module _ (k m w : ℕ) (cells cells' : List ℕ) (c low : ℕ) (em : m ≡ left_at rows k) (ew : w ≡ predictors rows s k) (lm : t < m) (um : m ≤ t + max_nonterminals)
+  module _ (k m w : ℕ) (cells cells' : List ℕ) (c : Bool) (low : Option ℕ) (em : m ≡ left_at rows k) (ew : w ≡ predictors rows s k) (lm : t < m) (um : m ≤ t + max_nonterminals)
       (h : Listed rows s t k cells low) (u : Marked w (k + 1) ((m - t - 1) * columns) columns cells cells' c) where
     new : (a : ℕ) → a < columns → Has w a → Hit rows s k m a
     new a l q = record { left = sym em; small = l; has = rw ew at q }
@@ -192,14 +184,14 @@ module _ (rows s : List ℕ) (t : ℕ) where
     wider : {M : ℕ} → Clash rows s k M → Clash rows s (k + 1) M
     wider q = record { lookahead = q.lookahead; one = q.one; other = q.other; before = q.before; low = omega (arith, q.low); hit = q.hit; too = q.too }
 
-    quiet_old : c ≡ 0 → {M : ℕ} → Clash rows s (k + 1) M → Clash rows s k M
+    quiet_old : c ≡ false → {M : ℕ} → Clash rows s (k + 1) M → Clash rows s k M
     quiet_old e {M} q = go (clash_parts q)
       where
         go : Clash rows s k M ⊎ ((M ≡ m) × ((a p : ℕ) × (p < k) × Hit rows s p m a × Hit rows s k m a)) → Clash rows s k M
         go (inl x) = x
         go (inr (z, (a, p, l, x, y))) = absurd (none_before (u.quiet e a y.small (rw (← ew) at y.has)) (own a y.small) p l x)
 
-    loud_new : (c ≡ 0 → ⊥) → Clash rows s (k + 1) m
+    loud_new : c ≡ true → Clash rows s (k + 1) m
     loud_new n =
         let q = u.loud n in
         let x = hit_before q.3 (own q.0 q.1) in
@@ -213,26 +205,28 @@ module _ (rows s : List ℕ) (t : ℕ) where
         go (inl x) = x
         go (inr x) = absurd (n x.0)
 
-    low_more : Low rows s (k + 1) (lower c low m)
-    unfolding lower
-    low_more = choose_of (Low rows s (k + 1)) (eqb c 0) _ _ (λ e. quietly (eqb-true c 0 e) h.conflict) (λ e. loudly (eqb-false c 0 e) h.conflict)
+    -- no new conflict
+    pub listed_quiet : c ≡ false → Listed rows s t (k + 1) cells' low
+    listed_quiet z = record { long = u.long ∙ h.long; cell = cells_more; conflict = go h.conflict }
       where
-        quietly : {l : ℕ} → c ≡ 0 → Low rows s k l → Low rows s (k + 1) l
-        quietly z (none f) = none (λ M q. f M (quiet_old z q))
-        quietly z (some n q f) = some n (wider q) (λ N l x. f N l (quiet_old z x))
+        go : {l : Option ℕ} → Low rows s k l → Low rows s (k + 1) l
+        go (none f) = none (λ M q. f M (quiet_old z q))
+        go (some q f) = some (wider q) (λ N l x. f N l (quiet_old z x))
 
-        loudly : {l : ℕ} → (c ≡ 0 → ⊥) → Low rows s k l → Low rows s (k + 1) (choose (eqb l 0) (λ _. m) (λ _. choose (ltb m l) (λ _. m) (λ _. l)))
-        loudly z (none f) =
-            choose_of (Low rows s (k + 1)) (eqb 0 0) _ _ (λ _. some (λ y. omega arith) (loud_new z) (λ N i x. f N (old_or_m (λ y. omega arith) x)))
-            (λ e. absurd (eqb-false 0 0 e refl))
-        loudly {l} z (some n q f) =
-            choose_of (Low rows s (k + 1)) (eqb l 0) _ _ (λ e. absurd (n (eqb-true l 0 e)))
-            (λ e. choose_of (Low rows s (k + 1)) (ltb m l) _ _
-            (λ i. some (λ y. omega arith) (loud_new z) (λ N j x. f N (omega (arith, ltb-true m l i)) (old_or_m (λ y. omega arith) x)))
-            (λ i. some n (wider q) (λ N j x. f N j (old_or_m (λ y. omega (arith, ltb-false m l i)) x))))
+    -- one of m
+    pub listed_loud : c ≡ true → Listed rows s t (k + 1) cells' (Some (min (unwrap_or low m) m))
+    listed_loud z = record { long = u.long ∙ h.long; cell = cells_more; conflict = go h.conflict }
+      where
+        go : {l : Option ℕ} → Low rows s k l → Low rows s (k + 1) (Some (min (unwrap_or l m) m))
+        go (none f) =
+            let e : min m m ≡ m = omega arith in
+            rw e (some (loud_new z) (λ N i x. f N (old_or_m (λ y. omega arith) x)))
+        go (some {M = l} q f) =
+            by_cases (dec_lt m l)
+            (λ i. let e : min l m ≡ m = omega arith in
+            rw e (some (loud_new z) (λ N j x. f N (omega arith) (old_or_m (λ y. omega arith) x))))
+            (λ i. let e : min l m ≡ l = omega arith in
+            rw e (some (wider q) (λ N j x. f N j (old_or_m (λ y. omega arith) x))))
 
-    pub listed_more : Listed rows s t (k + 1) cells' (lower c low m)
-    listed_more = record { long = u.long ∙ h.long; cell = cells_more; conflict = low_more }
-
-pub listed_all : (rows s : List ℕ) (t k n : ℕ) (cells : List ℕ) (low : ℕ) → n ≤ k → k ≤ n → Listed rows s t k cells low → Listed rows s t n cells low
-listed_all rows s t k n cells low l u h = let q : k ≡ n = omega arith in rw q at h
+pub listed_all : (rows s : List ℕ) (t k n : ℕ) (cells : List ℕ) (low : Option ℕ) → k ≡ n → Listed rows s t k cells low → Listed rows s t n cells low
+listed_all rows s t k n cells low e h = rw e at h

@@ -1,5 +1,5 @@
 -- What the cells and the lowest nonterminal in conflict say of the grammar in the rows.
-use Rattle.std.specs.Prelude.{ℕ, suc, ◌≤◌, ◌<◌, ◌≡◌, refl, List}
+use Rattle.std.specs.Prelude.{ℕ, suc, ◌≤◌, ◌<◌, ◌≡◌, Some, None, List}
 use Rattle.std.proofs.Common.{sym, arith}
 use Rattle.std.proofs.Math.Logic.{by_cases}
 use Rattle.std.proofs.Math.Decide.{dec_lt}
@@ -70,10 +70,8 @@ module _ (rows : List ℕ) (head : Head) (s : List ℕ) (known : Known (grammar_
             (λ y. absurd (c.differ (omega arith))))
 
     -- reply 3's place, or LL(1)
-    pub low_lowest : {r : ℕ} → Low rows s head.count r → (r ≡ 0 → ⊥) → Lowest (Conflict (grammar_in rows head)) r
-    low_lowest (none g) k = absurd (k refl)
-    low_lowest (some m c g) k = record { holds = clash_conflict c; first = λ N l x. g N l (conflict_clash x) }
+    pub low_lowest : {M : ℕ} → Low rows s head.count (Some M) → Lowest (Conflict (grammar_in rows head)) M
+    low_lowest (some c g) = record { holds = clash_conflict c; first = λ N l x. g N l (conflict_clash x) }
 
-    pub low_ll1 : {r : ℕ} → Low rows s head.count r → r ≡ 0 → LL1 (grammar_in rows head)
-    low_ll1 (none g) e M c = g M (conflict_clash c)
-    low_ll1 (some m c g) e M x = absurd (m e)
+    pub low_ll1 : Low rows s head.count None → LL1 (grammar_in rows head)
+    low_ll1 (none g) M c = g M (conflict_clash c)

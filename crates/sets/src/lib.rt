@@ -20,6 +20,7 @@ pub const FOLLOWS: usize = grammar::SYMBOL_SPACE;
 pub const MARKS: usize = 2 * grammar::SYMBOL_SPACE;
 
 // A word in front of another.
+#[tactic(auto, using(base::specs::Choose::ways), unfolding(crate::specs::Words::leads))]
 pub fn leads(word: u32, rest: u32) -> u32
     ensures { result ≡ leadsm word rest }
 {
@@ -30,6 +31,7 @@ pub fn leads(word: u32, rest: u32) -> u32
     }
 }
 
+#[tactic(auto, using(base::specs::Choose::ways), unfolding(crate::specs::Words::both))]
 fn both(mark: u32, rest: u32) -> u32
     ensures { result ≡ bothm mark rest }
 {

@@ -1,24 +1,19 @@
-use Rattle.predictions.specs.Listing.{listed_none, listed_more, listed_all}
+use Rattle.std.proofs.Common.{◌≡◌, Some, unwrap_or, min, arith}
 use borrow.Author.Rules.{rules}
+use Rattle.predictions.specs.Listing.{listed_none, listed_quiet, listed_loud, listed_all}
 use Rattle.predictions.proofs.predict.Goals as goal
+use Rattle.predictions.proofs.predict.Goals.{then-list_row, else-list_row}
 
 pub loop-p-init : goal.loop-p-init
-loop-p-init c = (search rules, search rules, search rules, search rules, search rules, search rules, listed_none _ _ _ _ c.requires.2)
-
-pub overflow_sub-m : goal.overflow_sub-m
-overflow_sub-m c = let h = c.loop-p.invariant.5 _ c.loop-p-test.true in search rules
-
-pub overflow_sub-m-in-loop-p : goal.overflow_sub-m-in-loop-p
-overflow_sub-m-in-loop-p c = let h = c.loop-p.invariant.5 _ c.loop-p-test.true in search rules
-
-pub overflow_mul-m : goal.overflow_mul-m
-overflow_mul-m c = let h = c.loop-p.invariant.5 _ c.loop-p-test.true in search rules
-
-pub list_row-c-requires : goal.list_row-c-requires
-list_row-c-requires c = let h = c.loop-p.invariant.5 _ c.loop-p-test.true in search rules
+loop-p-init c = listed_none _ _ _ _ c.requires.0
 
 pub loop-p-preserved : goal.loop-p-preserved
-loop-p-preserved c = let h = c.loop-p.invariant.5 _ c.loop-p-test.true in (search rules, search rules, search rules, search rules, search rules, search rules, rw c.lower-low.ensures (listed_more _ _ _ _ _ _ _ _ _ _ c.left_at-m.ensures.0 c.predictors-w.ensures (search rules) (search rules) c.loop-p.invariant.6 c.list_row-c.ensures))
+loop-p-preserved c =
+    let h = c.requires.3 _ c.loop-p-test.true in
+    elim c.if-list_row.branch [
+      | then-list_row w ↦ let e : c.if-list_row.low ≡ Some (min (unwrap_or c.loop-p.low c.left_at-m.result) c.left_at-m.result) = cc in rw e (listed_loud _ _ _ _ _ _ _ _ _ _ c.left_at-m.ensures.0 c.predictors-w.ensures (search rules) (search rules) c.loop-p.invariant c.list_row.ensures w.if-list_row.true)
+      | else-list_row w ↦ rw w.low-is (listed_quiet _ _ _ _ _ _ _ _ _ _ c.left_at-m.ensures.0 c.predictors-w.ensures (search rules) (search rules) c.loop-p.invariant c.list_row.ensures w.if-list_row.false)
+    ]
 
 pub returns : goal.returns
-returns c = search (listed_all, rules)
+returns c = listed_all _ _ _ _ _ _ _ (omega arith) c.loop-p.invariant
