@@ -1,5 +1,5 @@
 -- Model: what the code computes for the steps down the stems, the stems' symbols as bits, and the break points.
-use Rattle.std.specs.Prelude.{ℕ, zero, suc, ◌+◌, ◌-◌, ◌*◌, ◌/◌, ◌%◌, ◌^◌, List, [], ◌∷◌, get_or, eqb, leb}
+use Rattle.std.specs.Prelude.{ℕ, zero, suc, ◌+◌, ◌-◌, ◌*◌, ◌/◌, ◌%◌, ◌^◌, List, [], ◌∷◌, get_or, eqb, leb, Option, None, Some, unwrap_or}
 use Rattle.std.specs.Int.Bits.{bit_or}
 use Rattle.base.specs.Choose.{choose}
 use Rattle.grammar.specs.Limits.{columns}
@@ -10,16 +10,16 @@ use Rattle.sets.specs.Words.{follows}
 use Rattle.predictions.specs.Hits.{hasb}
 use Rattle.tables.specs.Tables.{break_place}
 
--- the first of the symbols that a begins, 0 where none does
-unfoldable pub lead : List ℕ → ℕ → List ℕ → ℕ
-lead s a [] = 0
-lead s a (x ∷ xs) = choose (hasb (get_or s x 0) a) (λ _. x) (λ _. lead s a xs)
+-- the first of the symbols that a begins
+unfoldable pub lead : List ℕ → ℕ → List ℕ → Option ℕ
+lead s a [] = None
+lead s a (x ∷ xs) = choose (hasb (get_or s x 0) a) (λ _. Some x) (λ _. lead s a xs)
 
 -- the symbol below that of row R on its stem to a, 0 where there is none; `cells` are the predictions
 unfoldable pub step_of : List ℕ → List ℕ → List ℕ → ℕ → ℕ → ℕ
 step_of rows s cells t i =
     choose (eqb (i % columns) 0) (λ _. 0)
-    (λ _. choose (hasb (get_or s (t + 1 + i / columns) 0) (i % columns)) (λ _. lead s (i % columns) (body_at rows (get_or cells i 0 - 1))) (λ _. 0))
+    (λ _. choose (hasb (get_or s (t + 1 + i / columns) 0) (i % columns)) (λ _. unwrap_or (lead s (i % columns) (body_at rows (get_or cells i 0 - 1))) 0) (λ _. 0))
 
 -- down from x, by the steps
 unfoldable pub next : List ℕ → ℕ → ℕ → ℕ → ℕ

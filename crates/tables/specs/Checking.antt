@@ -7,10 +7,10 @@ use Rattle.base.specs.Tells.{Tells, tells_no}
 use Rattle.base.specs.Blocks.{zeros, byte_zeros, length_zeros, part_tail}
 use Rattle.grammar.specs.Limits.{columns}
 use Rattle.tables.specs.Tables.{table_rows, row_size, predictions_size, breaks_size, tables_size, break_place}
-use Rattle.tables.specs.Grid.{Grid, grid_at}
+use Rattle.tables.specs.Grid.{Grid}
 use Rattle.tables.specs.Cells.{implied_of}
 use Rattle.tables.specs.Live.{Quiet}
-use Rattle.tables.specs.Writing.{Broken, Laid, implied_none}
+use Rattle.tables.specs.Writing.{Broken, Laid, implied_none, part, part_byte, part_long}
 
 -- a row that is 0 but where entries may stand
 pub record Blank (n c : ℕ) (row : List ℕ) : Type 0 where
@@ -25,7 +25,7 @@ pub record Held (f : ℕ → ℕ → ℕ) (n c r : ℕ) (w : List ℕ) : Type 0 
 pub blank_zeros : (n c : ℕ) (row : List ℕ) (m : ℕ) → m ≡ row_size → row ≡ zeros m → Blank n c row
 blank_zeros n c row m l e = record { long = ap length e ∙ length_zeros m ∙ l; other = λ Q a x y h. ap (λ (u : List ℕ). get_or u (Q * columns + a) 0) e ∙ byte_zeros m (Q * columns + a) }
 
-pub blank_more : (n c : ℕ) (g : ℕ → ℕ) (row row' : List ℕ) → c ≤ columns → Blank n c row → Grid g 0 c n n 0 row row' → Blank n c row'
+pub blank_more : (n c : ℕ) (g : ℕ → ℕ) (row row' : List ℕ) → c ≤ columns → Blank n c row → Grid 0 g c n n 0 row row' → Blank n c row'
 blank_more n c g row row' lc h u =
     record {
       long = u.long ∙ h.long;
@@ -36,30 +36,17 @@ blank_more n c g row row' lc h u =
 pub quiet_zeros : (steps : List ℕ) (n c : ℕ) (row : List ℕ) (m : ℕ) → row ≡ zeros m → Quiet steps n c row
 quiet_zeros steps n c row m e = record { dark = λ Q a x y z. ap (λ (u : List ℕ). get_or u (Q * columns + a) 0) e ∙ byte_zeros m (Q * columns + a) }
 
-pub quiet_more : (s steps : List ℕ) (t : ℕ) (w : List ℕ) (r n c : ℕ) (row row' : List ℕ) → Grid (implied_of s steps t w r) 0 c n n 0 row row' → Quiet steps n c row'
-quiet_more s steps t w r n c row row' u = record { dark = λ Q a x y z. grid_at u Q a x y ∙ sym (implied_none s steps t w r (Q * columns + a) z) }
+pub quiet_more : (s steps : List ℕ) (t : ℕ) (w : List ℕ) (r n c : ℕ) (row row' : List ℕ) → Grid 0 (implied_of s steps t w r) c n n 0 row row' → Quiet steps n c row'
+quiet_more s steps t w r n c row row' u = record { dark = λ Q a x y z. u.done Q a x y ∙ sym (implied_none s steps t w r (Q * columns + a) z) }
 
 module _ (f : ℕ → ℕ → ℕ) (n c : ℕ) where
   pub held_none : (w : List ℕ) → Held f n c 0 w
   held_none w = record { done = λ R Q a x. absurd (omega arith); other = λ R Q a x. absurd (omega arith) }
 
-  -- as `&w[r * 1024..r * 1024 + 1024]` is to the checker
-  abbrev part : ℕ → List ℕ → List ℕ
-  part r w = take (r * row_size + row_size - r * row_size) (drop (r * row_size) w)
-
   module _ (w row row' : List ℕ) (r : ℕ) (long : length w ≡ breaks_size) (ln : n ≤ table_rows) (lc : c ≤ columns) (lr : r < n)
-      (blank : Blank n c row) (u : Grid (f r) 0 c n n 0 row row') where
-    part_byte : (Q a : ℕ) → Q < table_rows → a < columns → get_or (part r w) (Q * columns + a) 0 ≡ get_or w (break_place r Q a) 0
-    part_byte Q a x y =
-        let q : r * row_size + (Q * columns + a) ≡ break_place r Q a = omega arith in
-        get_or-take (r * row_size + row_size - r * row_size) (drop (r * row_size) w) (Q * columns + a) 0 (omega arith)
-        ∙ get_or-drop (r * row_size) w (Q * columns + a) 0 ∙ ap (λ (i : ℕ). get_or w i 0) q
-
-    part_long : length (part r w) ≡ row_size
-    part_long = length-take-le (r * row_size + row_size - r * row_size) (drop (r * row_size) w) (omega (arith, length-drop (r * row_size) w)) ∙ omega arith
-
+      (blank : Blank n c row) (u : Grid 0 (f r) c n n 0 row row') where
     row_done : (Q a : ℕ) → Q < n → a < c → get_or row' (Q * columns + a) 0 ≡ f r (Q * columns + a)
-    row_done Q a x y = grid_at u Q a x y
+    row_done Q a x y = u.done Q a x y
 
     row_other : (Q a : ℕ) → Q < table_rows → a < columns → (Q < n → a < c → ⊥) → get_or row' (Q * columns + a) 0 ≡ 0
     row_other = (blank_more n c (f r) row row' lc blank u).other
@@ -68,23 +55,23 @@ module _ (f : ℕ → ℕ → ℕ) (n c : ℕ) where
     held_more e h =
         record {
           done = λ R Q a x y z. by_cases (ℕ_discrete R r)
-              (λ q. ap (λ (i : ℕ). get_or w (break_place i Q a) 0) q ∙ sym (part_byte Q a (omega arith) (omega arith)) ∙ ap (λ (v : List ℕ). get_or v (Q * columns + a) 0) e
+              (λ q. ap (λ (i : ℕ). get_or w (break_place i Q a) 0) q ∙ sym (part_byte r w Q a (omega arith) (omega arith)) ∙ ap (λ (v : List ℕ). get_or v (Q * columns + a) 0) e
               ∙ row_done Q a y z ∙ ap (λ (i : ℕ). f i (Q * columns + a)) (sym q))
               (λ q. h.done R Q a (omega arith) y z);
           other = λ R Q a x y z g. by_cases (ℕ_discrete R r)
-              (λ q. ap (λ (i : ℕ). get_or w (break_place i Q a) 0) q ∙ sym (part_byte Q a y z) ∙ ap (λ (v : List ℕ). get_or v (Q * columns + a) 0) e ∙ row_other Q a y z g)
+              (λ q. ap (λ (i : ℕ). get_or w (break_place i Q a) 0) q ∙ sym (part_byte r w Q a y z) ∙ ap (λ (v : List ℕ). get_or v (Q * columns + a) 0) e ∙ row_other Q a y z g)
               (λ q. h.other R Q a (omega arith) y z g);
         }
 
     pub held_not : (part r w ≡ row' → ⊥) → Tells (Broken f n c n w) false
-    held_not differs = tells_no (λ h. differs (ext_get_or 0 (part r w) row' (part_long ∙ sym (u.long ∙ blank.long)) (λ i l.
+    held_not differs = tells_no (λ h. differs (ext_get_or 0 (part r w) row' (part_long r w (omega arith) long ∙ sym (u.long ∙ blank.long)) (λ i l.
         let Q : ℕ = i / columns in
         let a : ℕ = i % columns in
         let z : Q * columns + a ≡ i = omega arith in
-        let x : Q < table_rows = omega (arith, part_long) in
+        let x : Q < table_rows = omega (arith, part_long r w (omega arith) long) in
         let y : a < columns = omega arith in
         let same : get_or (part r w) (Q * columns + a) 0 ≡ get_or row' (Q * columns + a) 0 =
-        part_byte Q a x y ∙ by_cases (dec_lt Q n)
+        part_byte r w Q a x y ∙ by_cases (dec_lt Q n)
         (λ p. by_cases (dec_lt a c) (λ q. h.done r Q a lr p q ∙ sym (row_done Q a p q))
         (λ q. h.other r Q a (omega arith) x y (λ _ _. q) ∙ sym (row_other Q a x y (λ _. q))))
         (λ p. h.other r Q a (omega arith) x y (λ _ k _. p k) ∙ sym (row_other Q a x y (λ k _. p k)))
@@ -121,9 +108,9 @@ module _ (f : ℕ → ℕ → ℕ) (n c : ℕ) where
 
 -- ---- both parts
 
--- as `&w[1024..]` and `&w[0..1024]` are to the checker
+-- as `&w[1024..]` and `&w[..1024]` are to the checker
 pub laid_told : (cells : List ℕ) (s steps : List ℕ) (t n c : ℕ) (w : List ℕ) (b : Bool) → length w ≡ tables_size
-    → take (predictions_size - 0) (drop 0 w) ≡ cells
+    → take predictions_size w ≡ cells
     → Tells (Broken (implied_of s steps t (take (length w - predictions_size) (drop predictions_size w))) n c n (take (length w - predictions_size) (drop predictions_size w))) b
     → Tells (Laid cells (implied_of s steps t (drop predictions_size w)) n c w) b
 laid_told cells s steps t n c w b long e u =
@@ -132,15 +119,15 @@ laid_told cells s steps t n c w b long e u =
     record {
       yes = λ z. record {
         long = long;
-        front = λ i l. sym (get_or-take (predictions_size - 0) (drop 0 w) i 0 (omega arith)) ∙ ap (λ (x : List ℕ). get_or x i 0) e;
+        front = λ i l. sym (get_or-take predictions_size w i 0 (omega arith)) ∙ ap (λ (x : List ℕ). get_or x i 0) e;
         back = v.yes z;
       };
       no = λ z h. v.no z h.back;
     }
 
 pub laid_not : (cells : List ℕ) (f : ℕ → ℕ → ℕ) (n c : ℕ) (w : List ℕ) → length w ≡ tables_size → length cells ≡ predictions_size
-    → (take (predictions_size - 0) (drop 0 w) ≡ cells → ⊥) → Tells (Laid cells f n c w) false
+    → (take predictions_size w ≡ cells → ⊥) → Tells (Laid cells f n c w) false
 laid_not cells f n c w long lc differs =
-    let l : length (take (predictions_size - 0) (drop 0 w)) ≡ predictions_size = length-take-le (predictions_size - 0) (drop 0 w) (omega arith) ∙ omega arith in
-    tells_no (λ h. differs (ext_get_or 0 (take (predictions_size - 0) (drop 0 w)) cells (l ∙ sym lc) (λ i m.
-    get_or-take (predictions_size - 0) (drop 0 w) i 0 (omega (arith, l)) ∙ h.front i (omega (arith, l)))))
+    let l : length (take predictions_size w) ≡ predictions_size = length-take-le predictions_size w (omega arith) ∙ omega arith in
+    tells_no (λ h. differs (ext_get_or 0 (take predictions_size w) cells (l ∙ sym lc) (λ i m.
+    get_or-take predictions_size w i 0 (omega (arith, l)) ∙ h.front i (omega (arith, l)))))

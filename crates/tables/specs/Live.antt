@@ -1,6 +1,6 @@
 -- The cells that have a step, listed once, and a row that is written at these cells only.
-use Rattle.std.specs.Prelude.{ℕ, ◌+◌, ◌*◌, ◌≤◌, ◌<◌, ◌≡◌, refl, List, length, get_or, set}
-use Rattle.std.proofs.Common.{sym, ap, ◌∙◌, length-set, get_or-set_same, get_or-set_other, arith}
+use Rattle.std.specs.Prelude.{ℕ, ◌+◌, ◌*◌, ◌≤◌, ◌<◌, ◌≡◌, refl, List, length, get_or, set, take}
+use Rattle.std.proofs.Common.{sym, ap, ◌∙◌, length-set, get_or-set_same, get_or-set_other, get_or-take, arith}
 use Rattle.std.proofs.Math.Logic.{by_cases}
 use Rattle.std.proofs.Math.Decide.{ℕ_discrete}
 use Rattle.grammar.specs.Limits.{max_nonterminals, columns}
@@ -30,11 +30,6 @@ pub record Live (steps : List ℕ) (n c q b : ℕ) (live : List ℕ) (k : ℕ) :
   pub done : (Q a : ℕ) → Q < q → a < c → (step_at steps (Q * columns + a) ≡ 0 → ⊥) → Among live k (Q * columns + a)
   pub part : (a : ℕ) → a < b → (step_at steps (q * columns + a) ≡ 0 → ⊥) → Among live k (q * columns + a)
 
--- cell i is put behind the first k, if it has a step
-pub data Noted (steps : List ℕ) (i : ℕ) (live : List ℕ) (k : ℕ) : List ℕ → ℕ → Type 0 where
-  passed : step_at steps i ≡ 0 → Noted steps i live k live k
-  noted : (step_at steps i ≡ 0 → ⊥) → Noted steps i live k (set live k i) (k + 1)
-
 module _ (steps : List ℕ) (n c : ℕ) where
   pub live_none : (live : List ℕ) → Live steps n c 0 0 live 0
   live_none live = record { few = omega arith; cell = λ j l. absurd (omega arith); done = λ Q a l. absurd (omega arith); part = λ a l. absurd (omega arith) }
@@ -42,40 +37,54 @@ module _ (steps : List ℕ) (n c : ℕ) where
   among_more : (live : List ℕ) (k i v : ℕ) → Among live k i → Among (set live k v) (k + 1) i
   among_more live k i v h = record { place = h.place; low = omega (arith, h.low); is = get_or-set_other live k h.place v 0 (omega (arith, h.low)) ∙ h.is }
 
-  pub live_cell : (q b i : ℕ) (live : List ℕ) (k : ℕ) (live' : List ℕ) (k' : ℕ) → q < n → b < c → i ≡ q * columns + b → k < length live → Live steps n c q b live k → Noted steps i live k live' k'
-      → Live steps n c q (b + 1) live' k'
-  live_cell q b i live k live' k' lq lb ei lk h (passed z) =
+  among_first : (live : List ℕ) (k i : ℕ) → Among live k i → Among (take k live) k i
+  among_first live k i h = record { place = h.place; low = h.low; is = get_or-take k live h.place 0 h.low ∙ h.is }
+
+  -- the next cell has no step, or is put behind the first k
+  pub live_passed : (q b : ℕ) (live : List ℕ) (k : ℕ) → step_at steps (q * columns + b) ≡ 0 → Live steps n c q b live k → Live steps n c q (b + 1) live k
+  live_passed q b live k z h =
       record {
         few = omega (arith, h.few);
         cell = h.cell;
         done = h.done;
-        part = λ a l f. by_cases (ℕ_discrete a b) (λ e. absurd (f (rw (← ei) at (ap (λ (x : ℕ). step_at steps (q * columns + x)) e) ∙ z))) (λ e. h.part a (omega arith) f);
+        part = λ a l f. by_cases (ℕ_discrete a b) (λ e. absurd (f (ap (λ (x : ℕ). step_at steps (q * columns + x)) e ∙ z))) (λ e. h.part a (omega arith) f);
       }
-  live_cell q b i live k live' k' lq lb ei lk h (noted z) =
+
+  pub live_noted : (q b : ℕ) (live : List ℕ) (k : ℕ) → q < n → b < c → k < length live → (step_at steps (q * columns + b) ≡ 0 → ⊥) → Live steps n c q b live k
+      → Live steps n c q (b + 1) (set live k (q * columns + b)) (k + 1)
+  live_noted q b live k lq lb lk z h =
+      let i : ℕ = q * columns + b in
       record {
         few = omega (arith, h.few);
         cell = λ j l. by_cases (ℕ_discrete j k)
-            (λ e. rw (e, get_or-set_same live k i 0 lk) (record { row = q; at = b; is = ei; low = lq; small = lb; some = z }))
+            (λ e. rw (e, get_or-set_same live k i 0 lk) (record { row = q; at = b; is = refl; low = lq; small = lb; some = z }))
             (λ e. rw (get_or-set_other live k j i 0 e) (h.cell j (omega arith)));
         done = λ Q a l m f. among_more live k (Q * columns + a) i (h.done Q a l m f);
         part = λ a l f. by_cases (ℕ_discrete a b)
-            (λ e. record { place = k; low = omega arith; is = get_or-set_same live k i 0 lk ∙ ei ∙ ap (λ (x : ℕ). q * columns + x) (sym e) })
+            (λ e. record { place = k; low = omega arith; is = get_or-set_same live k i 0 lk ∙ ap (λ (x : ℕ). q * columns + x) (sym e) })
             (λ e. among_more live k (q * columns + a) i (h.part a (omega arith) f));
       }
 
-  pub live_row : (q b : ℕ) (live : List ℕ) (k : ℕ) → c ≤ b → b ≤ columns → Live steps n c q b live k → Live steps n c (q + 1) 0 live k
-  live_row q b live k l m h =
+  pub live_row : (q : ℕ) (live : List ℕ) (k : ℕ) → c ≤ columns → Live steps n c q c live k → Live steps n c (q + 1) 0 live k
+  live_row q live k l h =
       record {
         few = omega (arith, h.few);
         cell = h.cell;
         done = λ Q a x y f. by_cases (ℕ_discrete Q q)
-            (λ e. rw e (h.part a (omega arith) (rw e at f)))
+            (λ e. rw e (h.part a y (rw e at f)))
             (λ e. h.done Q a (omega arith) y f);
         part = λ a x. absurd (omega arith);
       }
 
-  pub live_all : (q b : ℕ) (live : List ℕ) (k : ℕ) → n ≤ q → q * columns + b ≤ n * columns → Live steps n c q b live k → Live steps n c n 0 live k
-  live_all q b live k l m h = let e : q ≡ n = omega arith in let f : b ≡ 0 = omega arith in rw (e, f) at h
+  -- the first k alone
+  pub live_first : (q b : ℕ) (live : List ℕ) (k m : ℕ) → m ≡ k → k ≤ length live → Live steps n c q b live k → Live steps n c q b (take k live) m
+  live_first q b live k m e l h =
+      rw e (record {
+        few = h.few;
+        cell = λ j x. rw (get_or-take k live j 0 x) (h.cell j x);
+        done = λ Q a x y f. among_first live k (Q * columns + a) (h.done Q a x y f);
+        part = λ a x f. among_first live k (q * columns + a) (h.part a x f);
+      })
 
   pub live_below : (live : List ℕ) (k j : ℕ) → n ≤ max_nonterminals → c ≤ columns → j < k → Live steps n c n 0 live k → get_or live j 0 < predictions_size
   live_below live k j l m x h = let p = h.cell j x in omega (arith, p.is, p.low, p.small)
@@ -107,14 +116,13 @@ module _ (f : ℕ → ℕ) (live w : List ℕ) where
       }
 
 pub dotted_grid : (f : ℕ → ℕ) (steps : List ℕ) (n c : ℕ) (live : List ℕ) (k j : ℕ) (w w' : List ℕ) → ((i : ℕ) → step_at steps i ≡ 0 → f i ≡ 0) → k ≤ j → j ≤ k
-    → Live steps n c n 0 live k → Quiet steps n c w → Dotted f live j w w' → Grid f 0 c n n 0 w w'
+    → Live steps n c n 0 live k → Quiet steps n c w → Dotted f live j w w' → Grid 0 f c n n 0 w w'
 dotted_grid f steps n c live k j w w' zero_at l m h u d =
     record {
       long = d.long;
-      done = λ Q a x y. let z : 0 + Q * columns + a ≡ Q * columns + a = omega arith in
-          rw z (by_cases (ℕ_discrete (step_at steps (Q * columns + a)) 0)
+      done = λ Q a x y. by_cases (ℕ_discrete (step_at steps (Q * columns + a)) 0)
           (λ e. d.kept (Q * columns + a) (λ i q r. (h.cell i (omega arith)).some (rw (← r) e)) ∙ u.dark Q a x y e ∙ sym (zero_at (Q * columns + a) e))
-          (λ e. let p = h.done Q a x y e in rw p.is at (d.done p.place (omega (arith, p.low)))));
+          (λ e. let p = h.done Q a x y e in rw p.is at (d.done p.place (omega (arith, p.low))));
       row = λ a x. absurd (omega arith);
       kept = λ i g. d.kept i (λ x q r. let p = h.cell x (omega arith) in g p.row p.at p.low p.small (omega (arith, r, p.is)));
     }

@@ -22,7 +22,7 @@ use Rattle.tables.specs.Cells.{step_of, mask_of, entry_of, implied_of}
 use Rattle.tables.specs.Points.{point}
 use Rattle.tables.specs.Implied.{told_break, right_told}
 use Rattle.tables.specs.One.{prediction_one, break_one}
-use Rattle.tables.specs.Grid.{Grid, grid_at}
+use Rattle.tables.specs.Grid.{Grid}
 use Rattle.tables.specs.Writing.{Laid}
 
 -- what the writer needs to know
@@ -84,8 +84,8 @@ module _ (rows : List ℕ) (head : Head) (s cells : List ℕ) (ready : Ready row
           };
         }
 
-  module _ (st₀ steps : List ℕ) (fs : Grid (step_of rows s cells head.t) 0 (head.t + 1) head.n head.n 0 st₀ steps) where
-    module _ (m₀ masks : List ℕ) (fm : Grid (mask_of steps head.t) 0 (head.t + 1) head.n head.n 0 m₀ masks) where
+  module _ (st₀ steps : List ℕ) (fs : Grid 0 (step_of rows s cells head.t) (head.t + 1) head.n head.n 0 st₀ steps) where
+    module _ (m₀ masks : List ℕ) (fm : Grid 0 (mask_of steps head.t) (head.t + 1) head.n head.n 0 m₀ masks) where
       break_at : (R Q a : ℕ) → R < head.n → Q < head.n → a < head.t + 1 → Break G (head.t + 1 + R) (head.t + 1 + Q) a (entry_of s steps masks head.t R (Q * columns + a))
       unfolding entry_of mask_of
       break_at R Q a x y l =
@@ -93,8 +93,8 @@ module _ (rows : List ℕ) (head : Head) (s cells : List ℕ) (ready : Ready row
           let i : ℕ = Q * columns + a in
           let zq : i / columns ≡ Q = omega (arith, few.0) in
           let za : i % columns ≡ a = omega (arith, few.0) in
-          let e : get_or masks i 0 ≡ mask_of steps head.t i = grid_at fm Q a y l in
-          let p = point rows head s ready.known ready.prepared cells ready.listed steps (grid_at fs)
+          let e : get_or masks i 0 ≡ mask_of steps head.t i = fm.done Q a y l in
+          let p = point rows head s ready.known ready.prepared cells ready.listed steps fs.done
           (head.t + 1 + R) (head.t + 1 + i / columns) (i % columns) (get_or masks i 0) (omega (arith, few.0, few.1)) (omega (arith, few.0, few.1)) (omega arith) e
           in
           rw (zq, za) (rw (zq, za) at p)
@@ -109,12 +109,12 @@ module _ (rows : List ℕ) (head : Head) (s cells : List ℕ) (ready : Ready row
       implied_right : Laid cells (implied_of s steps head.t b) head.n (head.t + 1) w → (R Q a : ℕ) → R < head.n → Q < head.n → a < head.t + 1 → Break G (head.t + 1 + R) (head.t + 1 + Q) a (implied_of s steps head.t b R (Q * columns + a))
       implied_right laid R Q a x y l =
           rw (laid.back.done R Q a x y l) at
-          (told_break rows head s ready.known ready.prepared cells ready.listed steps (grid_at fs) b a l (λ R' Q' x' y'. laid.back.done R' Q' a x' y' l) R Q x y)
+          (told_break rows head s ready.known ready.prepared cells ready.listed steps fs.done b a l (λ R' Q' x' y'. laid.back.done R' Q' a x' y' l) R Q x y)
 
       right_implied : Tables (grammar_in rows head) w → (R Q a : ℕ) → R < head.n → Q < head.n → a < head.t + 1 → get_or b (break_place R Q a) 0 ≡ implied_of s steps head.t b R (Q * columns + a)
       unfolding grammar_in
       right_implied h R Q a x y l =
-          right_told rows head s ready.known ready.prepared cells ready.listed steps (grid_at fs) b a l
+          right_told rows head s ready.known ready.prepared cells ready.listed steps fs.done b a l
           (λ R' Q' x' y'. rw (get_or-drop predictions_size w (break_place R' Q' a) 0) (h.break R' Q' a x' y' (omega (arith, ready_few.0)))) R Q x y
 
       -- the tables are the bytes that are laid so and imply themselves

@@ -1,6 +1,6 @@
 -- The steps go down the stems, the bits are their symbols, and the entries are the break points.
 use Prim.Native.Nat.{ℕ, zero, suc, ◌+◌, ◌-◌, ◌*◌, ◌/◌, ◌%◌, ◌^◌, ◌≤◌, ◌<◌}
-use Rattle.std.specs.Prelude.{◌≡◌, refl, ◌↔◌, ◌⊎◌, eqb}
+use Rattle.std.specs.Prelude.{◌≡◌, refl, ◌↔◌, ◌⊎◌, eqb, Option, unwrap_or}
 use Rattle.std.proofs.Math.Path.{ap}
 use Rattle.std.proofs.Common.{◌∙◌}
 use Rattle.std.proofs.Math.Bool.{true, false}
@@ -88,11 +88,11 @@ module _ (rows : List ℕ) (head : Head) (s : List ℕ) (known : Known (grammar_
       (λ f. no_break_lem fN nM (λ _ c. hasb_not _ a f ((known_after known M a lM).1 (follow_after c)))))
       (λ v. no_break_lem fN nM (λ c _. eqb-false _ _ v (has_odd _ ((known_null known M lM).1 c))))
 
-  lead_led : (a : ℕ) (xs : List ℕ) → 0 < a → Each (λ x. x < symbol_space) xs → Begin G a xs → Led G a xs (lead s a xs)
+  lead_led : (a : ℕ) (xs : List ℕ) → 0 < a → Each (λ x. x < symbol_space) xs → Begin G a xs → Led G a xs (unwrap_or (lead s a xs) 0)
   unfolding lead
   lead_led a [] w l b = elim b [ ]
   lead_led a (x ∷ xs) w (Each.cons l ls) b =
-      choose_of (Led G a (x ∷ xs)) (hasb (get_or s x 0) a) _ _
+      choose_of (λ (v : Option ℕ). Led G a (x ∷ xs) (unwrap_or v 0)) (hasb (get_or s x 0) a) _ _
       (λ e. record { front = []; back = xs; is = refl; gone = v_nil; begins = begin_known x a l w e })
       (λ e. let q = begin_cons (begin_not x a l w e) b in
       let h = lead_led a xs w ls q.1 in
@@ -104,10 +104,10 @@ module _ (rows : List ℕ) (head : Head) (s : List ℕ) (known : Known (grammar_
   path_small (p_end w) = omega (arith, (terminal_of w).1, few)
   path_small (p_down {p = p} {M = M} {γ = γ} α β r e v h) = rule_small p M γ r
 
-  cell_step : {a p M v : ℕ} {γ : List ℕ} → a < columns → 0 < a → Rule G p M γ → Begin G a γ → Cell rows s head.count M a v → Led G a γ (lead s a (body_at rows (v - 1)))
+  cell_step : {a p M v : ℕ} {γ : List ℕ} → a < columns → 0 < a → Rule G p M γ → Begin G a γ → Cell rows s head.count M a v → Led G a γ (unwrap_or (lead s a (body_at rows (v - 1))) 0)
   cell_step {a} {p} {M} {v} {γ} k w r b c = go v c (predicts_hit rows head s known ok.formed (by_first r (begin_first b)))
     where
-      go : (v : ℕ) → Cell rows s head.count M a v → ((q : ℕ) × (p ≡ suc q) × (q < head.count) × Hit rows s q M a) → Led G a γ (lead s a (body_at rows (v - 1)))
+      go : (v : ℕ) → Cell rows s head.count M a v → ((q : ℕ) × (p ≡ suc q) × (q < head.count) × Hit rows s q M a) → Led G a γ (unwrap_or (lead s a (body_at rows (v - 1))) 0)
       go zero (empty f) (q, e, l, h) = absurd (f q l h)
       go (suc j) (full l h) (q, e, i, h') =
           let z : suc j - 1 ≡ j = omega arith in
@@ -138,11 +138,11 @@ module _ (rows : List ℕ) (head : Head) (s : List ℕ) (known : Known (grammar_
         let zm : head.t + 1 + (M - head.t - 1) ≡ M = omega arith in
         let hm : hasb (get_or s M 0) a ≡ true = has_hasb (get_or s M 0) a ((known_first known M a (rule_small p M γ r) w.0).1 (begin_first (b_rule r b))) in
         let c : Cell rows s head.count M a (get_or cells i 0) = rw zm at (listed.cell (M - head.t - 1) a (omega (arith, some_n)) (omega (arith, few))) in
-        let f : get_or steps i 0 ≡ lead s a (body_at rows (get_or cells i 0 - 1)) =
+        let f : get_or steps i 0 ≡ unwrap_or (lead s a (body_at rows (get_or cells i 0 - 1))) 0 =
         filled (M - head.t - 1) a (omega (arith, m.0, m.1)) (omega (arith, w.1)) ∙ rw (za, zi, zm, ne_eqb a 0 (omega arith), hm)
         in
-        let k = down_path α β r e v h (lead s a (body_at rows (get_or cells i 0 - 1))) (cell_step (omega (arith, few)) w.0 r b c) in
-        let l : lead s a (body_at rows (get_or cells i 0 - 1)) % symbol_space ≡ lead s a (body_at rows (get_or cells i 0 - 1)) = omega (arith, path_small k) in
+        let k = down_path α β r e v h (unwrap_or (lead s a (body_at rows (get_or cells i 0 - 1))) 0) (cell_step (omega (arith, few)) w.0 r b c) in
+        let l : unwrap_or (lead s a (body_at rows (get_or cells i 0 - 1))) 0 % symbol_space ≡ unwrap_or (lead s a (body_at rows (get_or cells i 0 - 1))) 0 = omega (arith, path_small k) in
         rw (f, l) k
 
     -- ---- the symbols of a stem as bits

@@ -1,19 +1,19 @@
 -- The laws that the code's proofs cite: the loops down a body and down a stem, and how the entries fill the tables.
 use Prim.Native.Nat.{ℕ, zero, suc, ◌+◌, ◌-◌, ◌*◌, ◌/◌, ◌%◌, ◌^◌, ◌≤◌, ◌<◌, min}
-use Rattle.std.specs.Prelude.{◌≡◌, Bool, List, [], ◌∷◌, ◌++◌, length, take, drop}
+use Rattle.std.specs.Prelude.{◌≡◌, ◌⊎◌, Bool, List, [], ◌∷◌, ◌++◌, length, take, drop, Some, None, unwrap_or}
 use Rattle.std.proofs.Math.Path.{sym, ap}
-use Rattle.std.proofs.Common.{◌∙◌, append-nil, length-append, length-drop, drop_of_length-le, take_at, drop_at}
+use Rattle.std.proofs.Common.{◌∙◌, append-nil, length-append, length-drop, length-take-le, drop_of_length-le, take_at, drop_at, get_or-take, get_or-drop}
+use Rattle.std.proofs.lemmas.List.{get_or-append_right}
 use Rattle.std.proofs.Math.Bool.{true, false}
-use Rattle.std.proofs.Math.Logic.{by_cases}
+use Rattle.std.proofs.Math.Logic.{by_cases, inl, inr}
 use Rattle.std.proofs.Math.ListN.{get_or, get_or-append}
-use Rattle.std.proofs.Math.Seq.{take-length}
 use Rattle.std.specs.Int.Bits.{bit_or}
 use borrow.Author.Tests.{le-leb, lt-leb, eq-eqb, ne_eqb}
-use Rattle.std.proofs.Math.Decide.{ℕ_discrete}
+use Rattle.std.proofs.Math.Decide.{ℕ_discrete, dec_lt}
 use native.Mathlib.Omega.{arith}
 use Rattle.base.specs.Bits.{shift_one}
 use Rattle.base.specs.Choose.{choose}
-use Rattle.base.specs.Blocks.{zeros, byte_zeros, length_zeros, copied}
+use Rattle.base.specs.Blocks.{zeros, byte_zeros, length_zeros}
 use Rattle.grammar.specs.Limits.{columns}
 use Rattle.grammar.specs.Rows.{symbol_space, length_at, symbol_at, symbols_from}
 use Rattle.grammar.specs.RowRules.{body_at}
@@ -36,11 +36,11 @@ module _ (rows s : List ℕ) (p a : ℕ) where
   opened : (j : ℕ) → j < length_at rows p → symbols_from rows p (length_at rows p - j) j ≡ symbol_at rows p j ∷ symbols_from rows p (length_at rows p - (j + 1)) (j + 1)
   opened j l = let q : length_at rows p - j ≡ suc (length_at rows p - (j + 1)) = omega arith in rw q
 
-  pub lead_found : (j x : ℕ) (b : Bool) → j < length_at rows p → x ≡ symbol_at rows p j → b ≡ hasb (get_or s x 0) a → b ≡ true → LeadAt rows s p a j → x ≡ lead s a (body_at rows p)
+  pub lead_found : (j x : ℕ) (b : Bool) → j < length_at rows p → x ≡ symbol_at rows p j → b ≡ hasb (get_or s x 0) a → b ≡ true → LeadAt rows s p a j → Some x ≡ lead s a (body_at rows p)
   unfolding lead choose
   lead_found j x b l e f t h =
       let z : hasb (get_or s (symbol_at rows p j) 0) a ≡ true = rw (← e, ← f) t in
-      e ∙ rw (opened j l, z) at h.is
+      ap Some e ∙ rw (opened j l, z) at h.is
 
   pub lead_on : (j x : ℕ) (b : Bool) → j < length_at rows p → x ≡ symbol_at rows p j → b ≡ hasb (get_or s x 0) a → b ≡ false → LeadAt rows s p a j → LeadAt rows s p a (j + 1)
   unfolding lead choose
@@ -48,7 +48,7 @@ module _ (rows s : List ℕ) (p a : ℕ) where
       let z : hasb (get_or s (symbol_at rows p j) 0) a ≡ false = rw (← e, ← f) t in
       record { is = rw (opened j l, z) at h.is }
 
-  pub lead_none : (j : ℕ) → length_at rows p ≤ j → LeadAt rows s p a j → 0 ≡ lead s a (body_at rows p)
+  pub lead_none : (j : ℕ) → length_at rows p ≤ j → LeadAt rows s p a j → None ≡ lead s a (body_at rows p)
   unfolding lead
   lead_none j l h = let q : length_at rows p - j ≡ 0 = omega arith in rw q at h.is
 
@@ -62,9 +62,9 @@ module _ (rows s cells : List ℕ) (t i : ℕ) where
   step_end e = rw (eq-eqb (i % columns) 0 e)
 
   pub step_lead : (x v p : ℕ) (b : Bool) → (i % columns ≡ 0 → ⊥) → b ≡ hasb (get_or s (t + 1 + i / columns) 0) (i % columns) → b ≡ true → v ≡ get_or cells i 0 → p ≡ v - 1
-      → x ≡ lead s (i % columns) (body_at rows p) → x ≡ step_of rows s cells t i
+      → x ≡ unwrap_or (lead s (i % columns) (body_at rows p)) 0 → x ≡ step_of rows s cells t i
   unfolding step_of choose
-  step_lead x v p b n e f g h k = rw (ne_eqb (i % columns) 0 n, ← e, f) (k ∙ ap (λ (q : ℕ). lead s (i % columns) (body_at rows q)) (h ∙ ap (λ (q : ℕ). q - 1) g))
+  step_lead x v p b n e f g h k = rw (ne_eqb (i % columns) 0 n, ← e, f) (k ∙ ap (λ (q : ℕ). unwrap_or (lead s (i % columns) (body_at rows q)) 0) (h ∙ ap (λ (q : ℕ). q - 1) g))
 
   pub step_none : (b : Bool) → (i % columns ≡ 0 → ⊥) → b ≡ hasb (get_or s (t + 1 + i / columns) 0) (i % columns) → b ≡ false → 0 ≡ step_of rows s cells t i
   unfolding step_of choose
@@ -74,27 +74,18 @@ pub ruleset stepping = (step_end, step_lead, step_none)
 
 -- ---- down a stem
 
--- at a terminal there is no step: the model takes row 0 there
-pub next_low : (steps : List ℕ) (t a x v : ℕ) → x ≤ t → v ≡ get_or steps a 0 → v % symbol_space ≡ next steps t a x
-unfolding next
-next_low steps t a x v l e = let q : (x - t - 1) * columns + a ≡ a = omega arith in rw (q, e)
-
-pub next_down : (steps : List ℕ) (t a x v : ℕ) → v ≡ get_or steps ((x - t - 1) * columns + a) 0 → v % symbol_space ≡ next steps t a x
-unfolding next
-next_down steps t a x v e = rw e
-
 module _ (steps : List ℕ) (t a : ℕ) where
   pub stem_last : (k x acc X : ℕ) → 0 < k → x < symbol_space → x ≤ t → X ≡ stem_bits steps t a k x acc → bit_or acc (1 * 2 ^ x % 2 ^ 64) ≡ X
   unfolding stem_bits choose
   stem_last zero x acc X w l m h = absurd (omega arith)
   stem_last (suc k) x acc X w l m h = ap (bit_or acc) (shift_one symbol_space x l) ∙ sym (rw (le-leb x t m) at h)
 
-  pub stem_on : (k x y acc X : ℕ) → 0 < k → x < symbol_space → t < x → y ≡ next steps t a x → X ≡ stem_bits steps t a k x acc
-      → X ≡ stem_bits steps t a (k - 1) y (bit_or acc (1 * 2 ^ x % 2 ^ 64))
+  pub stem_on : (k j x y acc X : ℕ) → k ≡ j + 1 → x < symbol_space → t < x → y ≡ next steps t a x → X ≡ stem_bits steps t a k x acc
+      → X ≡ stem_bits steps t a j y (bit_or acc (1 * 2 ^ x % 2 ^ 64))
   unfolding stem_bits choose
-  stem_on zero x y acc X w l m f h = absurd (omega arith)
-  stem_on (suc k) x y acc X w l m f h =
-      let q : suc k - 1 ≡ k = omega arith in
+  stem_on zero j x y acc X w l m f h = absurd (omega arith)
+  stem_on (suc k) j x y acc X w l m f h =
+      let q : j ≡ k = omega arith in
       rw (q, f, shift_one symbol_space x l) (rw (lt-leb x t m) at h)
 
   pub stem_done : (k x acc X : ℕ) → k ≤ 0 → X ≡ stem_bits steps t a k x acc → acc ≡ X
@@ -107,10 +98,10 @@ module _ (steps : List ℕ) (t a : ℕ) where
     shared_here zero x X b w e f h = absurd (omega arith)
     shared_here (suc k) x X b w e f h = sym (rw (← e, f) at h)
 
-    pub shared_on : (k x y X : ℕ) (b : Bool) → 0 < k → b ≡ hasb mask x → b ≡ false → y ≡ next steps t a x → X ≡ shared_from steps t a mask k x → X ≡ shared_from steps t a mask (k - 1) y
+    pub shared_on : (k j x y X : ℕ) (b : Bool) → k ≡ j + 1 → b ≡ hasb mask x → b ≡ false → y ≡ next steps t a x → X ≡ shared_from steps t a mask k x → X ≡ shared_from steps t a mask j y
     unfolding shared_from choose
-    shared_on zero x y X b w e f g h = absurd (omega arith)
-    shared_on (suc k) x y X b w e f g h = let q : suc k - 1 ≡ k = omega arith in rw (q, g) (rw (← e, f) at h)
+    shared_on zero j x y X b w e f g h = absurd (omega arith)
+    shared_on (suc k) j x y X b w e f g h = let q : j ≡ k = omega arith in rw (q, g) (rw (← e, f) at h)
 
     pub shared_done : (k x X : ℕ) → k ≤ 0 → X ≡ shared_from steps t a mask k x → 0 ≡ X
     unfolding shared_from
@@ -124,6 +115,44 @@ pub record Broken (f : ℕ → ℕ → ℕ) (n c r : ℕ) (w : List ℕ) : Type 
   pub done : (R Q a : ℕ) → R < r → Q < n → a < c → get_or w (break_place R Q a) 0 ≡ f R (Q * columns + a)
   pub other : (R Q a : ℕ) → R < table_rows → Q < table_rows → a < columns → (R < r → Q < n → a < c → ⊥) → get_or w (break_place R Q a) 0 ≡ 0
 
+-- row r, as `&w[at..at + 1024]` is to the checker, what is behind it, and the bytes with this row
+abbrev pub part : ℕ → List ℕ → List ℕ
+part r w = take (r * row_size + row_size - r * row_size) (drop (r * row_size) w)
+
+abbrev pub rest : ℕ → List ℕ → List ℕ
+rest r w = drop (r * row_size + row_size - r * row_size) (drop (r * row_size) w)
+
+abbrev pub with_part : ℕ → List ℕ → List ℕ → List ℕ
+with_part r w row = take (r * row_size) w ++ (row ++ rest r w)
+
+pub part_byte : (r : ℕ) (w : List ℕ) (Q a : ℕ) → Q < table_rows → a < columns → get_or (part r w) (Q * columns + a) 0 ≡ get_or w (break_place r Q a) 0
+part_byte r w Q a x y =
+    let q : r * row_size + (Q * columns + a) ≡ break_place r Q a = omega arith in
+    get_or-take (r * row_size + row_size - r * row_size) (drop (r * row_size) w) (Q * columns + a) 0 (omega arith)
+    ∙ get_or-drop (r * row_size) w (Q * columns + a) 0 ∙ ap (λ (i : ℕ). get_or w i 0) q
+
+pub part_long : (r : ℕ) (w : List ℕ) → r < table_rows → length w ≡ breaks_size → length (part r w) ≡ row_size
+part_long r w l e = length-take-le (r * row_size + row_size - r * row_size) (drop (r * row_size) w) (omega (arith, length-drop (r * row_size) w)) ∙ omega arith
+
+rest_long : (r : ℕ) (w : List ℕ) → r < table_rows → length w ≡ breaks_size → length (rest r w) ≡ breaks_size - r * row_size - row_size
+rest_long r w l e = length-drop (r * row_size + row_size - r * row_size) (drop (r * row_size) w) ∙ omega (arith, length-drop (r * row_size) w)
+
+with_in : (r : ℕ) (w row : List ℕ) (i j : ℕ) → r < table_rows → length w ≡ breaks_size → i < length row → j ≡ r * row_size + i → get_or (with_part r w row) j 0 ≡ get_or row i 0
+with_in r w row i j l e m q =
+    let z : j - r * row_size ≡ i = omega arith in
+    get_or-append_right (take (r * row_size) w) (row ++ rest r w) (r * row_size) j 0 (length-take-le (r * row_size) w (omega arith)) (omega arith)
+    ∙ ap (λ (k : ℕ). get_or (row ++ rest r w) k 0) z ∙ get_or-append row (rest r w) 0 i m
+
+with_out : (r : ℕ) (w row : List ℕ) (i : ℕ) → r < table_rows → length w ≡ breaks_size → length row ≡ row_size → (i < r * row_size) ⊎ (r * row_size + row_size ≤ i) → get_or (with_part r w row) i 0 ≡ get_or w i 0
+with_out r w row i l e m (inl x) = get_or-append (take (r * row_size) w) (row ++ rest r w) 0 i (omega (arith, length-take-le (r * row_size) w (omega arith))) ∙ get_or-take (r * row_size) w i 0 x
+with_out r w row i l e m (inr x) =
+    let k : ℕ = r * row_size + row_size - r * row_size in
+    let z : r * row_size + (k + (i - r * row_size - row_size)) ≡ i = omega arith in
+    get_or-append_right (take (r * row_size) w) (row ++ rest r w) (r * row_size) i 0 (length-take-le (r * row_size) w (omega arith)) (omega arith)
+    ∙ get_or-append_right row (rest r w) row_size (i - r * row_size) 0 m (omega arith)
+    ∙ get_or-drop k (drop (r * row_size) w) (i - r * row_size - row_size) 0 ∙ get_or-drop (r * row_size) w (k + (i - r * row_size - row_size)) 0
+    ∙ ap (λ (j : ℕ). get_or w j 0) z
+
 module _ (f : ℕ → ℕ → ℕ) (n c : ℕ) where
   pub broken_none : (w : List ℕ) (m : ℕ) → m ≡ breaks_size → w ≡ zeros m → Broken f n c 0 w
   broken_none w m l e =
@@ -133,18 +162,27 @@ module _ (f : ℕ → ℕ → ℕ) (n c : ℕ) where
         other = λ R Q a x y z h. ap (λ (u : List ℕ). get_or u (break_place R Q a) 0) e ∙ byte_zeros m (break_place R Q a);
       }
 
-  pub broken_more : (w w' : List ℕ) (r : ℕ) → n ≤ table_rows → c ≤ columns → r < n → Broken f n c r w → Grid (f r) (r * row_size) c n n 0 w w' → Broken f n c (r + 1) w'
-  broken_more w w' r ln lc lr h u =
-      record {
-        long = u.long ∙ h.long;
-        done = λ R Q a x y z. by_cases (ℕ_discrete R r)
-            (λ e. let q : break_place R Q a ≡ r * row_size + Q * columns + a = omega arith in
-            ap (λ (i : ℕ). get_or w' i 0) q ∙ u.done Q a y z ∙ ap (λ (i : ℕ). f i (Q * columns + a)) (sym e))
-            (λ e. u.kept (break_place R Q a) (λ Q' a' x' z' g. omega arith) ∙ h.done R Q a (omega arith) y z);
-        other = λ R Q a x y z g.
-            u.kept (break_place R Q a) (λ Q' a' x' z' k. g (omega arith) (omega arith) (omega arith))
-            ∙ h.other R Q a x y z (λ m q. g (omega arith) q);
-      }
+  -- row r is written
+  module _ (w row : List ℕ) (r : ℕ) (ln : n ≤ table_rows) (lc : c ≤ columns) (lr : r < n) (h : Broken f n c r w) (u : Grid 0 (f r) c n n 0 (part r w) row) where
+    long_row : length row ≡ row_size
+    long_row = u.long ∙ part_long r w (omega arith) h.long
+
+    beside : (R Q a : ℕ) → (R ≡ r → ⊥) → Q < table_rows → a < columns → (break_place R Q a < r * row_size) ⊎ (r * row_size + row_size ≤ break_place R Q a)
+    beside R Q a e y z = by_cases (dec_lt R r) (λ l. inl (omega arith)) (λ l. inr (omega arith))
+
+    pub broken_more : Broken f n c (r + 1) (with_part r w row)
+    broken_more =
+        record {
+          long = length-append (take (r * row_size) w) (row ++ rest r w) ∙ omega (arith, length-append row (rest r w), length-take-le (r * row_size) w (omega (arith, h.long)), rest_long r w (omega arith) h.long, long_row, h.long);
+          done = λ R Q a x y z. by_cases (ℕ_discrete R r)
+              (λ e. with_in r w row (Q * columns + a) (break_place R Q a) (omega arith) h.long (omega (arith, long_row)) (omega arith) ∙ u.done Q a y z ∙ ap (λ (i : ℕ). f i (Q * columns + a)) (sym e))
+              (λ e. with_out r w row (break_place R Q a) (omega arith) h.long long_row (beside R Q a e (omega arith) (omega arith)) ∙ h.done R Q a (omega arith) y z);
+          other = λ R Q a x y z g. by_cases (ℕ_discrete R r)
+              (λ e. with_in r w row (Q * columns + a) (break_place R Q a) (omega arith) h.long (omega (arith, long_row)) (omega arith)
+              ∙ u.kept (Q * columns + a) (λ Q' a' x' z' k. g (omega arith) (omega arith) (omega arith))
+              ∙ part_byte r w Q a y z ∙ ap (λ (i : ℕ). get_or w (break_place i Q a) 0) (sym e) ∙ h.other R Q a x y z (λ m. absurd (omega arith)))
+              (λ e. with_out r w row (break_place R Q a) (omega arith) h.long long_row (beside R Q a e y z) ∙ h.other R Q a x y z (λ m q. g (omega arith) q));
+        }
 
   pub broken_all : (w : List ℕ) (r : ℕ) → n ≤ r → r ≤ n → Broken f n c r w → Broken f n c n w
   broken_all w r l m h = let q : r ≡ n = omega arith in rw q at h
@@ -157,18 +195,11 @@ pub record Laid (cells : List ℕ) (f : ℕ → ℕ → ℕ) (n c : ℕ) (w : Li
   pub front : (i : ℕ) → i < predictions_size → get_or w i 0 ≡ get_or cells i 0
   pub back : Broken f n c n (drop predictions_size w)
 
-front_copied : (cells w₀ : List ℕ) → length w₀ ≡ tables_size → length cells ≡ predictions_size → copied w₀ 0 cells ≡ cells ++ drop predictions_size w₀
-unfolding copied
-front_copied cells w₀ l c =
-    let m : min (length cells) (length w₀ - 0) ≡ length cells = omega arith in
-    let z : 0 + length cells ≡ predictions_size = omega arith in
-    rw (m, take-length cells, z)
-
--- as `&mut w[1024..]` leaves it, where the break-point writer left b in the part
-pub laid : (cells : List ℕ) (f : ℕ → ℕ → ℕ) (n k : ℕ) (w₀ w b : List ℕ) → length w₀ ≡ tables_size → length cells ≡ predictions_size → w ≡ copied w₀ 0 cells → Broken f n k n b
+-- as `&mut w[1024..]` leaves it, where the predictions were copied and the break-point writer left b in the part
+pub laid : (cells u : List ℕ) (f : ℕ → ℕ → ℕ) (n k : ℕ) (w₀ w b : List ℕ) → length w₀ ≡ tables_size → length cells ≡ predictions_size → u ≡ cells → w ≡ u ++ drop predictions_size w₀ → Broken f n k n b
     → Laid cells f n k (take predictions_size w ++ (b ++ drop (length w - predictions_size) (drop predictions_size w)))
-laid cells f n k w₀ w b l c e h =
-    let v : w ≡ cells ++ drop predictions_size w₀ = e ∙ front_copied cells w₀ l c in
+laid cells u f n k w₀ w b l c s e h =
+    let v : w ≡ cells ++ drop predictions_size w₀ = e ∙ ap (λ (x : List ℕ). x ++ drop predictions_size w₀) s in
     let lw : length w ≡ tables_size = ap length v ∙ length-append cells (drop predictions_size w₀) ∙ omega (arith, length-drop predictions_size w₀) in
     let q : drop (length w - predictions_size) (drop predictions_size w) ≡ [] = drop_of_length-le (drop predictions_size w) {i = length w - predictions_size} (omega (arith, length-drop predictions_size w)) in
     let t : take predictions_size w ≡ cells = ap (take predictions_size) v ∙ take_at cells (drop predictions_size w₀) predictions_size c in
@@ -215,23 +246,6 @@ module _ (s : List ℕ) (M N a : ℕ) where
   behind_stuck e = rw (ne_eqb (get_or s M 0 % 2) 1 e)
 
 pub ruleset pointing = (point_end, point_not, point_both, point_behind, behind_follow, behind_never, behind_stuck)
-
--- ---- a cell's row and lookahead
-
-pub mask_cell : (steps : List ℕ) (t q a v : ℕ) → a < columns → v ≡ stem_bits steps t a symbol_space (t + 1 + q) 0 → v ≡ mask_of steps t (q * columns + a)
-unfolding mask_of
-mask_cell steps t q a v l e =
-    let x : (q * columns + a) / columns ≡ q = omega arith in
-    let y : (q * columns + a) % columns ≡ a = omega arith in
-    rw (x, y) e
-
-pub entry_cell : (s steps masks : List ℕ) (t r q a v : ℕ) → a < columns → v ≡ point_of s steps t (t + 1 + r) (t + 1 + q) a (get_or masks (q * columns + a) 0)
-    → v ≡ entry_of s steps masks t r (q * columns + a)
-unfolding entry_of
-entry_cell s steps masks t r q a v l e =
-    let x : (q * columns + a) / columns ≡ q = omega arith in
-    let y : (q * columns + a) % columns ≡ a = omega arith in
-    rw (x, y) e
 
 -- ---- break points from break points
 

@@ -3,21 +3,21 @@
 // Lent tables are tested without masks: a break point follows from those one step down either stem.
 #![tactic(auto)]
 
-ghost use Rattle.std.specs.Prelude.{◌≡◌, ◌+◌, ◌-◌, ◌*◌, ◌<◌, ◌≤◌, length, drop};
+ghost use Rattle.std.specs.Prelude.{◌≡◌, ℕ, ◌+◌, ◌*◌, ◌<◌, ◌≤◌, length, drop, MatchOption};
 ghost use Rattle.base.specs.Tells.{Tells};
 ghost use Rattle.grammar.specs.Limits.{max_terminals, max_nonterminals, columns};
 ghost use Rattle.grammar.specs.Rows.{symbol_space, grammar_in};
 ghost use Rattle.grammar.specs.RowRules.{body_at};
-ghost use Rattle.sets.specs.Words.{sets_size};
 ghost use Rattle.predictions.specs.Hits.{hasb};
 ghost use Rattle.tables.specs.Tables.{row_size, predictions_size, breaks_size, tables_size, Tables};
 ghost use Rattle.tables.specs.Outcome.{Ready};
 ghost use Rattle.tables.specs.Cells.{lead as leadm, step_of, next as nextm, stem_bits, mask_of, shared_from, behind_of, point_of, entry_of, step_at, down_of, meet_of, implied_of};
 ghost use Rattle.tables.specs.Grid.{Grid};
-ghost use Rattle.tables.specs.Live.{Noted, Live, Quiet};
+ghost use Rattle.tables.specs.Live.{Live, Quiet};
 ghost use Rattle.tables.specs.Writing.{Broken, Laid};
 
 use grammar::Head;
+use sets::SETS_SIZE;
 
 // The break points of one row.
 const ROW_SIZE: usize = grammar::MAX_NONTERMINALS * grammar::COLUMNS;
@@ -30,6 +30,31 @@ pub const TABLES_SIZE: usize = PREDICTIONS_SIZE + BREAKS_SIZE;
 
 const NO_BREAK: usize = 255;
 
+// How many terminals and nonterminals a grammar has: of a grid, a row for each nonterminal and a column for each lookahead.
+#[derive(Clone, Copy)]
+struct Shape {
+    t: usize,
+    n: usize,
+    ghost few_terminals: { t ≤ max_terminals },
+    ghost few_nonterminals: { n ≤ max_nonterminals },
+}
+
+impl Shape {
+    // Writes each cell of the grid, by its place.
+    fn fill<T: Copy, F: Fn(usize) -> T>(self, w: &mut [T], cell: F)
+        requires fits { self.n * columns ≤ length w.old }
+        requires may { (i : ℕ) → i < self.n * columns → F.pre cell i }
+        ensures { (d : T) (f : ℕ → T) → ((i : ℕ) (v : T) → i < self.n * columns → F.post cell i v → v ≡ f i) → Grid d f (self.t + 1) self.n self.n 0 w.old w.new }
+    {
+        for q in 0..self.n {
+            for a in 0..self.t + 1 {
+                let i = q * grammar::COLUMNS + a;
+                w[i] = cell(i);
+            }
+        }
+    }
+}
+
 // Whether the symbol x is in the mask.
 fn in_mask(mask: u64, x: usize) -> bool
     requires { x < symbol_space }
@@ -38,36 +63,31 @@ fn in_mask(mask: u64, x: usize) -> bool
     (mask >> x) % 2 == 1
 }
 
-// The first symbol of the body in row p that a begins, or 0.
-fn lead(rows: &[u8], p: usize, a: usize, sets: &[u32]) -> usize
-    requires { (length sets.now ≡ sets_size) × (a < columns) }
-    ensures { (result ≡ leadm sets.now a (body_at rows.now p)) × (result < symbol_space) }
+// The first symbol of the body in row p that a begins.
+fn lead(rows: &[u8], p: usize, a: usize, sets: &[u32; SETS_SIZE]) -> Option<usize>
+    requires { a < columns }
+    ensures first { result ≡ leadm sets.now a (body_at rows.now p) }
+    ensures small { MatchOption result (Unit {0}) (λ x. x < symbol_space) }
 {
-    let len = grammar::length_at(rows, p);
-    let mut j: usize = 0;
-    while j < len {
+    for j in 0..grammar::length_at(rows, p) {
         let x = grammar::symbol_at(rows, p, j);
         if predictions::has(sets[x], a) {
-            return x;
+            return Some(x);
         }
-        j += 1;
     }
-    0
+    None
 }
 
-// One less, and 0 for 0.
-fn before(v: usize) -> usize
-    ensures { result ≡ v - 1 }
-{
-    if v == 0 {
-        return 0;
-    }
-    v - 1
-}
-
-// The symbol below that of cell i's row on its stem to cell i's lookahead.
-fn step_of(rows: &[u8], sets: &[u32], cells: &[u8], t: usize, i: usize) -> u8
-    requires { (length sets.now ≡ sets_size) × (t ≤ max_terminals) × (i < predictions_size) }
+// The symbol below that of cell i's row on its stem to cell i's lookahead, or 0.
+fn step_of(
+    rows: &[u8],
+    sets: &[u32; SETS_SIZE],
+    cells: &[u8; PREDICTIONS_SIZE],
+    t: usize,
+    i: usize,
+) -> u8
+    requires few { t ≤ max_terminals }
+    requires within { i < predictions_size }
     ensures { result ≡ step_of rows.now sets.now cells.now t i }
 {
     let a = i % grammar::COLUMNS;
@@ -75,374 +95,334 @@ fn step_of(rows: &[u8], sets: &[u32], cells: &[u8], t: usize, i: usize) -> u8
         return 0;
     }
     if predictions::has(sets[t + 1 + i / grammar::COLUMNS], a) {
-        let p = before(base::byte_at(cells, i));
-        return lead(rows, p, a, sets) as u8;
+        let p = usize::from(cells[i]).saturating_sub(1);
+        return lead(rows, p, a, sets).unwrap_or(0) as u8;
     }
     0
 }
 
-// The steps of every nonterminal at every lookahead of the grammar.
-fn fill_steps(rows: &[u8], sets: &[u32], cells: &[u8], t: usize, n: usize, steps: &mut [u8])
-    requires { (length sets.now ≡ sets_size) × (t ≤ max_terminals) × (n ≤ max_nonterminals) × (length steps.old ≡ predictions_size) }
-    ensures { Grid (step_of rows.now sets.now cells.now t) 0 (t + 1) n n 0 steps.old steps.new }
-{
-    let mut q: usize = 0;
-    let mut a: usize = 0;
-    while q < n {
-        let i = q * grammar::COLUMNS + a;
-        steps[i] = step_of(rows, sets, cells, t, i);
-        a += 1;
-        if a <= t {
-            continue;
+// What the break points follow from: the words of the sets, and the steps down the stems.
+#[derive(Clone, Copy)]
+struct Stems<'a> {
+    sets: &'a [u32; SETS_SIZE],
+    steps: &'a [u8; PREDICTIONS_SIZE],
+    shape: Shape,
+}
+
+impl Stems<'_> {
+    // The step of cell i.
+    fn step_at(&self, i: usize) -> usize
+        ensures is { result ≡ step_at self.now.steps.now i }
+        ensures small { result < symbol_space }
+    {
+        let steps = self.steps;
+        base::byte_at(steps, i) % grammar::SYMBOL_SPACE
+    }
+
+    // Down from x, by the steps.
+    fn next(&self, a: usize, x: usize) -> usize
+        requires ahead { a < columns }
+        requires symbol { x < symbol_space }
+        ensures is { result ≡ nextm self.now.steps.now self.now.shape.t a x }
+        ensures small { result < symbol_space }
+    {
+        self.step_at(x.saturating_sub(self.shape.t + 1) * grammar::COLUMNS + a)
+    }
+
+    // The symbols of the stem from x to a, as bits.
+    fn bits(&self, a: usize, from: usize) -> u64
+        requires ahead { a < columns }
+        requires symbol { from < symbol_space }
+        ensures { result ≡ stem_bits self.now.steps.now self.now.shape.t a symbol_space from 0 }
+    {
+        let mut x = from;
+        let mut acc = 0;
+        for _k in 0..grammar::SYMBOL_SPACE {
+            acc |= 1 << x;
+            if x <= self.shape.t {
+                return acc;
+            }
+            x = self.next(a, x);
         }
-        a = 0;
-        q += 1;
+        acc
     }
-}
 
-// Down from x, by the steps.
-fn next(steps: &[u8], t: usize, a: usize, x: usize) -> usize
-    requires { (t ≤ max_terminals) × (a < columns) × (x < symbol_space) }
-    ensures { (result ≡ nextm steps.now t a x) × (result < symbol_space) }
-{
-    if x <= t {
-        return base::byte_at(steps, a) % grammar::SYMBOL_SPACE;
+    // The same of cell i's row and lookahead.
+    fn mask(&self, i: usize) -> u64
+        requires { i < predictions_size }
+        ensures { result ≡ mask_of self.now.steps.now self.now.shape.t i }
+    {
+        self.bits(
+            i % grammar::COLUMNS,
+            self.shape.t + 1 + i / grammar::COLUMNS,
+        )
     }
-    base::byte_at(steps, (x - t - 1) * grammar::COLUMNS + a) % grammar::SYMBOL_SPACE
-}
 
-// The symbols of the stem from x to a, as bits.
-fn stem_bits(steps: &[u8], t: usize, a: usize, from: usize) -> u64
-    requires { (t ≤ max_terminals) × (a < columns) × (from < symbol_space) }
-    ensures { result ≡ stem_bits steps.now t a symbol_space from 0 }
-{
-    let mut x = from;
-    let mut acc: u64 = 0;
-    let mut k: usize = grammar::SYMBOL_SPACE;
-    while 0 < k {
-        k -= 1;
-        acc = acc | (1 << x);
+    // The first symbol from x down to a that is in the mask.
+    fn shared(&self, a: usize, mask: u64, from: usize) -> usize
+        requires ahead { a < columns }
+        requires symbol { from < symbol_space }
+        ensures is { result ≡ shared_from self.now.steps.now self.now.shape.t a mask symbol_space from }
+        ensures small { result < symbol_space }
+    {
+        let mut x = from;
+        for _k in 0..grammar::SYMBOL_SPACE {
+            if in_mask(mask, x) {
+                return x;
+            }
+            x = self.next(a, x);
+        }
+        0
+    }
+
+    // The break point of m and n at a where n begins with a and m doesn't.
+    fn behind(&self, m: usize, n: usize, a: usize) -> usize
+        requires ahead { a < columns }
+        requires upper { m < symbol_space }
+        requires lower { n < symbol_space }
+        ensures is { result ≡ behind_of self.now.sets.now m n a }
+        ensures small { result < 256 }
+    {
+        if self.sets[m] % 2 == 1 {
+            if predictions::has(self.sets[sets::FOLLOWS + m], a) {
+                return n;
+            }
+        }
+        NO_BREAK
+    }
+
+    // The break point of m and n at a; `mask` has the symbols of n's stem.
+    fn point(&self, m: usize, n: usize, a: usize, mask: u64) -> usize
+        requires ahead { a < columns }
+        requires upper { m < symbol_space }
+        requires lower { n < symbol_space }
+        ensures is { result ≡ point_of self.now.sets.now self.now.steps.now self.now.shape.t m n a mask }
+        ensures small { result < 256 }
+    {
+        if a == 0 {
+            return 0;
+        }
+        if predictions::has(self.sets[n], a) {
+            if predictions::has(self.sets[m], a) {
+                return self.shared(a, mask, m);
+            }
+            return self.behind(m, n, a);
+        }
+        0
+    }
+
+    // The break point of row r and cell i.
+    fn entry(&self, masks: &[u64; PREDICTIONS_SIZE], r: usize, i: usize) -> u8
+        requires row { r < max_nonterminals }
+        requires within { i < predictions_size }
+        ensures { result ≡ entry_of self.now.sets.now self.now.steps.now masks.now self.now.shape.t r i }
+    {
+        let t = self.shape.t;
+        self.point(
+            t + 1 + r,
+            t + 1 + i / grammar::COLUMNS,
+            i % grammar::COLUMNS,
+            masks[i],
+        ) as u8
+    }
+
+    // All break points, onto zeros.
+    fn write_breaks(&self, masks: &[u64; PREDICTIONS_SIZE], w: &mut [u8])
+        requires { length w.old ≡ breaks_size }
+        ensures { Broken (entry_of self.now.sets.now self.now.steps.now masks.now self.now.shape.t) self.now.shape.n (self.now.shape.t + 1) self.now.shape.n w.new }
+    {
+        w.fill(0);
+        for r in 0..self.shape.n {
+            let at = r * ROW_SIZE;
+            self.shape.fill(&mut w[at..at + ROW_SIZE], move |i| self.entry(masks, r, i));
+        }
+    }
+
+    // The break point of rows r and q at a by w's break points, where the symbol of r is not on the stem of q's.
+    fn down(&self, r: usize, q: usize, a: usize, w: &[u8]) -> usize
+        requires ahead { a < columns }
+        requires upper { r < max_nonterminals }
+        requires lower { q < max_nonterminals }
+        ensures is { result ≡ down_of self.now.steps.now self.now.shape.t w.now r q a }
+        ensures small { result < 256 }
+    {
+        let t = self.shape.t;
+        let x = self.step_at(r * grammar::COLUMNS + a);
         if x <= t {
-            return acc;
-        }
-        x = next(steps, t, a, x);
-    }
-    acc
-}
-
-// The stems' symbols, of every nonterminal at every lookahead of the grammar.
-fn fill_masks(steps: &[u8], t: usize, n: usize, masks: &mut [u64])
-    requires { (t ≤ max_terminals) × (n ≤ max_nonterminals) × (length masks.old ≡ predictions_size) }
-    ensures { Grid (mask_of steps.now t) 0 (t + 1) n n 0 masks.old masks.new }
-{
-    let mut q: usize = 0;
-    let mut a: usize = 0;
-    while q < n {
-        masks[q * grammar::COLUMNS + a] = stem_bits(steps, t, a, t + 1 + q);
-        a += 1;
-        if a <= t {
-            continue;
-        }
-        a = 0;
-        q += 1;
-    }
-}
-
-// The first symbol from x down to a that is in the mask.
-fn shared(steps: &[u8], t: usize, a: usize, mask: u64, from: usize) -> usize
-    requires { (t ≤ max_terminals) × (a < columns) × (from < symbol_space) }
-    ensures { (result ≡ shared_from steps.now t a mask symbol_space from) × (result < symbol_space) }
-{
-    let mut x = from;
-    let mut k: usize = grammar::SYMBOL_SPACE;
-    while 0 < k {
-        if in_mask(mask, x) {
             return x;
         }
-        x = next(steps, t, a, x);
-        k -= 1;
+        base::byte_at(w, (x - t - 1) * ROW_SIZE + q * grammar::COLUMNS + a)
     }
-    0
-}
 
-// The break point of m and n at a where n begins with a and m doesn't.
-fn behind(sets: &[u32], m: usize, n: usize, a: usize) -> usize
-    requires { (length sets.now ≡ sets_size) × (m < symbol_space) × (n < symbol_space) × (a < columns) }
-    ensures { (result ≡ behind_of sets.now m n a) × (result < 256) }
-{
-    if sets[m] % 2 == 1 {
-        if predictions::has(sets[sets::FOLLOWS + m], a) {
-            return n;
+    // The same where a begins both symbols.
+    fn meet(&self, r: usize, q: usize, a: usize, w: &[u8]) -> usize
+        requires ahead { a < columns }
+        requires upper { r < max_nonterminals }
+        requires lower { q < max_nonterminals }
+        ensures is { result ≡ meet_of self.now.steps.now self.now.shape.t w.now r q a }
+        ensures small { result < 256 }
+    {
+        let t = self.shape.t;
+        if r == q {
+            return t + 1 + r;
         }
-        return NO_BREAK;
-    }
-    NO_BREAK
-}
-
-// The break point of m and n at a; `mask` has the symbols of n's stem.
-fn point(sets: &[u32], steps: &[u8], t: usize, m: usize, n: usize, a: usize, mask: u64) -> usize
-    requires { (length sets.now ≡ sets_size) × (t ≤ max_terminals) × (m < symbol_space) × (n < symbol_space) × (a < columns) }
-    ensures { (result ≡ point_of sets.now steps.now t m n a mask) × (result < 256) }
-{
-    if a == 0 {
-        return 0;
-    }
-    if predictions::has(sets[n], a) {
-        if predictions::has(sets[m], a) {
-            return shared(steps, t, a, mask, m);
+        let y = self.step_at(q * grammar::COLUMNS + a);
+        if y <= t {
+            return self.down(r, q, a, w);
         }
-        return behind(sets, m, n, a);
-    }
-    0
-}
-
-// The break points of row r, from `at` on.
-fn fill_row(
-    sets: &[u32],
-    steps: &[u8],
-    masks: &[u64],
-    t: usize,
-    n: usize,
-    r: usize,
-    at: usize,
-    w: &mut [u8],
-)
-    requires { (length sets.now ≡ sets_size) × (length masks.now ≡ predictions_size) × (t ≤ max_terminals) × (n ≤ max_nonterminals) × (r < n) × (at + row_size ≤ length w.old) × (length w.old ≤ breaks_size) }
-    ensures { Grid (entry_of sets.now steps.now masks.now t r) at (t + 1) n n 0 w.old w.new }
-{
-    let mut q: usize = 0;
-    let mut a: usize = 0;
-    while q < n {
-        let i = q * grammar::COLUMNS + a;
-        w[at + i] = point(sets, steps, t, t + 1 + r, t + 1 + q, a, masks[i]) as u8;
-        a += 1;
-        if a <= t {
-            continue;
+        if base::byte_at(w, r * ROW_SIZE + (y - t - 1) * grammar::COLUMNS + a) == t + 1 + r {
+            return t + 1 + r;
         }
-        a = 0;
-        q += 1;
+        self.down(r, q, a, w)
     }
-}
 
-// All break points, onto zeros.
-fn write_breaks(sets: &[u32], steps: &[u8], masks: &[u64], t: usize, n: usize, w: &mut [u8])
-    requires { (length sets.now ≡ sets_size) × (length masks.now ≡ predictions_size) × (t ≤ max_terminals) × (n ≤ max_nonterminals) × (length w.old ≡ breaks_size) }
-    ensures { Broken (entry_of sets.now steps.now masks.now t) n (t + 1) n w.new }
-{
-    base::zero(w);
-    let mut r: usize = 0;
-    while r < n {
-        fill_row(sets, steps, masks, t, n, r, r * ROW_SIZE, w);
-        r += 1;
-    }
-}
-
-// The step of cell i.
-fn step_at(steps: &[u8], i: usize) -> usize
-    ensures { (result ≡ step_at steps.now i) × (result < symbol_space) }
-{
-    base::byte_at(steps, i) % grammar::SYMBOL_SPACE
-}
-
-// The break point of rows r and q at a by w's break points, where the symbol of r is not on the stem of q's.
-fn down(steps: &[u8], t: usize, r: usize, q: usize, a: usize, w: &[u8]) -> usize
-    requires { (r < max_nonterminals) × (q < max_nonterminals) × (a < columns) }
-    ensures { (result ≡ down_of steps.now t w.now r q a) × (result < 256) }
-{
-    let x = step_at(steps, r * grammar::COLUMNS + a);
-    if x <= t {
-        return x;
-    }
-    base::byte_at(w, (x - t - 1) * ROW_SIZE + q * grammar::COLUMNS + a)
-}
-
-// The same where a begins both symbols.
-fn meet(steps: &[u8], t: usize, r: usize, q: usize, a: usize, w: &[u8]) -> usize
-    requires { (t ≤ max_terminals) × (r < max_nonterminals) × (q < max_nonterminals) × (a < columns) }
-    ensures { (result ≡ meet_of steps.now t w.now r q a) × (result < 256) }
-{
-    if r == q {
-        return t + 1 + r;
-    }
-    let y = step_at(steps, q * grammar::COLUMNS + a);
-    if y <= t {
-        return down(steps, t, r, q, a, w);
-    }
-    if base::byte_at(w, r * ROW_SIZE + (y - t - 1) * grammar::COLUMNS + a) == t + 1 + r {
-        return t + 1 + r;
-    }
-    down(steps, t, r, q, a, w)
-}
-
-// The same of row r and cell i.
-fn implied(sets: &[u32], steps: &[u8], t: usize, r: usize, i: usize, w: &[u8]) -> usize
-    requires { (length sets.now ≡ sets_size) × (t ≤ max_terminals) × (r < max_nonterminals) × (i < predictions_size) }
-    ensures { (result ≡ implied_of sets.now steps.now t w.now r i) × (result < 256) }
-{
-    if step_at(steps, i) == 0 {
-        return 0;
-    }
-    let q = i / grammar::COLUMNS;
-    let a = i % grammar::COLUMNS;
-    if step_at(steps, r * grammar::COLUMNS + a) == 0 {
-        return behind(sets, t + 1 + r, t + 1 + q, a);
-    }
-    meet(steps, t, r, q, a, w)
-}
-
-// Puts cell i behind the first k, if it has a step; how many there are then.
-fn note(steps: &[u8], i: usize, live: &mut [u16], k: usize) -> usize
-    requires { (i < predictions_size) × (k < length live.old) }
-    ensures { Noted steps.now i live.old k live.new result }
-{
-    if step_at(steps, i) == 0 {
-        return k;
-    }
-    live[k] = i as u16;
-    k + 1
-}
-
-// Lists the cells of the grammar that have a step; how many there are.
-fn list_live(steps: &[u8], t: usize, n: usize, live: &mut [u16]) -> usize
-    requires { (t ≤ max_terminals) × (n ≤ max_nonterminals) × (length live.old ≡ predictions_size) }
-    ensures { Live steps.now n (t + 1) n 0 live.new result × (result ≤ predictions_size) }
-{
-    let mut k: usize = 0;
-    let mut q: usize = 0;
-    let mut a: usize = 0;
-    while q < n {
-        k = note(steps, q * grammar::COLUMNS + a, live, k);
-        a += 1;
-        if a <= t {
-            continue;
+    // The same of row r and cell i.
+    fn implied(&self, r: usize, i: usize, w: &[u8]) -> usize
+        requires row { r < max_nonterminals }
+        requires within { i < predictions_size }
+        ensures is { result ≡ implied_of self.now.sets.now self.now.steps.now self.now.shape.t w.now r i }
+        ensures small { result < 256 }
+    {
+        if self.step_at(i) == 0 {
+            return 0;
         }
-        a = 0;
-        q += 1;
-    }
-    k
-}
-
-// A cell's number, to compute with.
-fn place(x: u16) -> usize
-    ensures { result ≡ x }
-{
-    x as usize
-}
-
-// The break points of row r that w's break points imply, at the k cells that have a step. The row is 0 at the others.
-fn imply_row(
-    sets: &[u32],
-    steps: &[u8],
-    live: &[u16],
-    k: usize,
-    t: usize,
-    n: usize,
-    r: usize,
-    w: &[u8],
-    row: &mut [u8],
-)
-    requires { (length sets.now ≡ sets_size) × (t ≤ max_terminals) × (n ≤ max_nonterminals) × (r < n) × (k ≤ length live.now) × (length row.old ≡ row_size) × Live steps.now n (t + 1) n 0 live.now k × Quiet steps.now n (t + 1) row.old }
-    ensures { Grid (implied_of sets.now steps.now t w.now r) 0 (t + 1) n n 0 row.old row.new }
-{
-    let mut j: usize = 0;
-    while j < k {
-        let i = place(live[j]);
-        row[i] = implied(sets, steps, t, r, i, w) as u8;
-        j += 1;
-    }
-}
-
-// Whether the bytes are break points that imply themselves, row by row. `row` is for one row of them.
-fn holds_breaks(
-    sets: &[u32],
-    steps: &[u8],
-    live: &[u16],
-    k: usize,
-    t: usize,
-    n: usize,
-    w: &[u8],
-    row: &mut [u8],
-) -> bool
-    requires { (length sets.now ≡ sets_size) × (t ≤ max_terminals) × (n ≤ max_nonterminals) × (k ≤ length live.now) × (length w.now ≡ breaks_size) × (length row.old ≡ row_size) × Live steps.now n (t + 1) n 0 live.now k }
-    ensures { Tells (Broken (implied_of sets.now steps.now t w.now) n (t + 1) n w.now) result }
-{
-    base::zero(row);
-    let mut r: usize = 0;
-    while r < n {
-        imply_row(sets, steps, live, k, t, n, r, w, row);
-        if base::same(&w[r * ROW_SIZE..r * ROW_SIZE + ROW_SIZE], row) {
-            r += 1;
-            continue;
+        let t = self.shape.t;
+        let q = i / grammar::COLUMNS;
+        let a = i % grammar::COLUMNS;
+        if self.step_at(r * grammar::COLUMNS + a) == 0 {
+            return self.behind(t + 1 + r, t + 1 + q, a);
         }
-        return false;
+        self.meet(r, q, a, w)
     }
-    base::all_zero(&w[n * ROW_SIZE..])
-}
 
-// The predictions in the cells, then the break points. The tail of the lent tables, from byte 1,024, is lent on to the break-point writer.
-fn lay(
-    sets: &[u32],
-    cells: &[u8],
-    steps: &[u8],
-    masks: &[u64],
-    t: usize,
-    n: usize,
-    tables: &mut [u8],
-)
-    requires { (length sets.now ≡ sets_size) × (length cells.now ≡ predictions_size) × (length masks.now ≡ predictions_size) × (t ≤ max_terminals) × (n ≤ max_nonterminals) × (length tables.old ≡ tables_size) }
-    ensures { Laid cells.now (entry_of sets.now steps.now masks.now t) n (t + 1) tables.new }
-{
-    base::copy(tables, 0, cells);
-    write_breaks(sets, steps, masks, t, n, &mut tables[PREDICTIONS_SIZE..]);
-}
-
-// Whether the bytes are the predictions in the cells, then break points that imply themselves.
-fn holds(
-    sets: &[u32],
-    cells: &[u8],
-    steps: &[u8],
-    live: &[u16],
-    k: usize,
-    t: usize,
-    n: usize,
-    tables: &[u8],
-    row: &mut [u8],
-) -> bool
-    requires { (length sets.now ≡ sets_size) × (length cells.now ≡ predictions_size) × (t ≤ max_terminals) × (n ≤ max_nonterminals) × (k ≤ length live.now) × (length tables.now ≡ tables_size) × (length row.old ≡ row_size) × Live steps.now n (t + 1) n 0 live.now k }
-    ensures { Tells (Laid cells.now (implied_of sets.now steps.now t (drop predictions_size tables.now)) n (t + 1) tables.now) result }
-{
-    if base::same(&tables[0..PREDICTIONS_SIZE], cells) {
-        return holds_breaks(sets, steps, live, k, t, n, &tables[PREDICTIONS_SIZE..], row);
+    // Lists the cells of the grammar that have a step; how many there are.
+    fn list_live(&self, live: &mut [u16; PREDICTIONS_SIZE]) -> usize
+        ensures listed { Live self.now.steps.now self.now.shape.n (self.now.shape.t + 1) self.now.shape.n 0 live.new result }
+        ensures fits { result ≤ predictions_size }
+    {
+        let mut k = 0;
+        for q in 0..self.shape.n {
+            for a in 0..self.shape.t + 1 {
+                let i = q * grammar::COLUMNS + a;
+                if self.step_at(i) != 0 {
+                    live[k] = i as u16;
+                    k += 1;
+                }
+            }
+        }
+        k
     }
-    false
+
+    // The break points of row r that w's break points imply, at the cells that have a step. The row is 0 at the others.
+    fn imply_row(&self, live: &[u16], r: usize, w: &[u8], row: &mut [u8; ROW_SIZE])
+        requires row { r < self.now.shape.n }
+        requires listed { Live self.now.steps.now self.now.shape.n (self.now.shape.t + 1) self.now.shape.n 0 live.now (length live.now) }
+        requires quiet { Quiet self.now.steps.now self.now.shape.n (self.now.shape.t + 1) row.old }
+        ensures { Grid 0 (implied_of self.now.sets.now self.now.steps.now self.now.shape.t w.now r) (self.now.shape.t + 1) self.now.shape.n self.now.shape.n 0 row.old row.new }
+    {
+        for &x in live {
+            let i = usize::from(x);
+            row[i] = self.implied(r, i, w) as u8;
+        }
+    }
+
+    // Whether the bytes are break points that imply themselves, row by row.
+    fn holds_breaks(&self, live: &[u16], w: &[u8]) -> bool
+        requires long { length w.now ≡ breaks_size }
+        requires listed { Live self.now.steps.now self.now.shape.n (self.now.shape.t + 1) self.now.shape.n 0 live.now (length live.now) }
+        ensures { Tells (Broken (implied_of self.now.sets.now self.now.steps.now self.now.shape.t w.now) self.now.shape.n (self.now.shape.t + 1) self.now.shape.n w.now) result }
+    {
+        let mut row = [0u8; ROW_SIZE];
+        for r in 0..self.shape.n {
+            self.imply_row(live, r, w, &mut row);
+            let at = r * ROW_SIZE;
+            if !base::same(&w[at..at + ROW_SIZE], &row) {
+                return false;
+            }
+        }
+        base::all_zero(&w[self.shape.n * ROW_SIZE..])
+    }
+
+    // The predictions in the cells, then the break points. The tail of the lent tables, from byte 1,024, is lent on to the break-point writer.
+    fn lay(
+        &self,
+        cells: &[u8; PREDICTIONS_SIZE],
+        masks: &[u64; PREDICTIONS_SIZE],
+        tables: &mut [u8],
+    )
+        requires { length tables.old ≡ tables_size }
+        ensures { Laid cells.now (entry_of self.now.sets.now self.now.steps.now masks.now self.now.shape.t) self.now.shape.n (self.now.shape.t + 1) tables.new }
+    {
+        tables[..PREDICTIONS_SIZE].copy_from_slice(cells);
+        self.write_breaks(masks, &mut tables[PREDICTIONS_SIZE..]);
+    }
+
+    // Whether the bytes are the predictions in the cells, then break points that imply themselves.
+    fn holds(&self, cells: &[u8; PREDICTIONS_SIZE], live: &[u16], tables: &[u8]) -> bool
+        requires long { length tables.now ≡ tables_size }
+        requires listed { Live self.now.steps.now self.now.shape.n (self.now.shape.t + 1) self.now.shape.n 0 live.now (length live.now) }
+        ensures { Tells (Laid cells.now (implied_of self.now.sets.now self.now.steps.now self.now.shape.t (drop predictions_size tables.now)) self.now.shape.n (self.now.shape.t + 1) tables.now) result }
+    {
+        if base::same(&tables[..PREDICTIONS_SIZE], cells) {
+            return self.holds_breaks(live, &tables[PREDICTIONS_SIZE..]);
+        }
+        false
+    }
 }
 
 // Writes the tables of the grammar in the rows, which passes replies 1 to 3; `sets` are its words and `cells` its predictions.
-pub fn write_tables(rows: &[u8], head: Head, sets: &[u32], cells: &[u8], tables: &mut [u8])
+pub fn write_tables(
+    rows: &[u8],
+    head: Head,
+    sets: &[u32; SETS_SIZE],
+    cells: &[u8; PREDICTIONS_SIZE],
+    tables: &mut [u8],
+)
     requires { Ready rows.now head sets.now cells.now × (length tables.old ≡ tables_size) }
     ensures { Tables (grammar_in rows.now head) tables.new }
 {
+    let shape = Shape {
+        t: head.t,
+        n: head.n,
+    };
     let mut steps = [0u8; PREDICTIONS_SIZE];
+    shape.fill(&mut steps, |i| step_of(rows, sets, cells, shape.t, i));
+    let stems = Stems {
+        sets,
+        steps: &steps,
+        shape,
+    };
     let mut masks = [0u64; PREDICTIONS_SIZE];
-    fill_steps(rows, sets, cells, head.t, head.n, &mut steps);
-    fill_masks(&steps, head.t, head.n, &mut masks);
-    lay(sets, cells, &steps, &masks, head.t, head.n, tables);
+    shape.fill(&mut masks, |i| stems.mask(i));
+    stems.lay(cells, &masks, tables);
 }
 
 // Whether the bytes are what `write_tables` writes.
-pub fn is_prepared(rows: &[u8], head: Head, sets: &[u32], cells: &[u8], tables: &[u8]) -> bool
+pub fn is_prepared(
+    rows: &[u8],
+    head: Head,
+    sets: &[u32; SETS_SIZE],
+    cells: &[u8; PREDICTIONS_SIZE],
+    tables: &[u8],
+) -> bool
     requires { Ready rows.now head sets.now cells.now }
     ensures { Tells (Tables (grammar_in rows.now head) tables.now) result }
 {
     if tables.len() != TABLES_SIZE {
         return false;
     }
+    let shape = Shape {
+        t: head.t,
+        n: head.n,
+    };
     let mut steps = [0u8; PREDICTIONS_SIZE];
+    shape.fill(&mut steps, |i| step_of(rows, sets, cells, shape.t, i));
+    let stems = Stems {
+        sets,
+        steps: &steps,
+        shape,
+    };
     let mut live = [0u16; PREDICTIONS_SIZE];
-    let mut row = [0u8; ROW_SIZE];
-    fill_steps(rows, sets, cells, head.t, head.n, &mut steps);
-    let k = list_live(&steps, head.t, head.n, &mut live);
-    holds(
-        sets, cells, &steps, &live, k, head.t, head.n, tables, &mut row,
-    )
+    let k = stems.list_live(&mut live);
+    stems.holds(cells, &live[..k], tables)
 }

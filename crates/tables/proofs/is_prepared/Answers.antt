@@ -1,18 +1,9 @@
-use Rattle.tables.specs.Outcome.{ready_few, told_tables, told_longer}
-use borrow.Author.Rules.{rules}
+use Rattle.std.proofs.Common.{rules}
+use Rattle.tables.specs.Outcome.{ready_few, told_tables}
 use Rattle.tables.proofs.is_prepared.Goals as goal
 
-pub returns-then-tables-ne-TABLES_SIZE : goal.returns-then-tables-ne-TABLES_SIZE
-returns-then-tables-ne-TABLES_SIZE c = told_longer _ _ (search rules)
-
-pub fill_steps-requires : goal.fill_steps-requires
-fill_steps-requires c = let r = c.requires in let h = ready_few _ _ _ _ r in let l = r.known.long in let m = r.listed.long in search rules
-
-pub list_live-k-requires : goal.list_live-k-requires
-list_live-k-requires c = let r = c.requires in let h = ready_few _ _ _ _ r in let l = r.known.long in let m = r.listed.long in search rules
-
-pub holds-requires : goal.holds-requires
-holds-requires c = let r = c.requires in let h = ready_few _ _ _ _ r in let l = r.known.long in let m = r.listed.long in (search rules, search rules, search rules, search rules, search rules, search rules, search rules, c.list_live-k.ensures.0)
+pub invariant_of-shape : goal.invariant_of-shape
+invariant_of-shape c = let h = ready_few _ _ _ _ c.requires in record { few_terminals = h.0; few_nonterminals = h.1 }
 
 pub returns : goal.returns
-returns c = told_tables _ _ _ _ c.requires _ _ c.fill_steps.ensures _ _ c.holds.ensures
+returns c = told_tables _ _ _ _ c.requires _ _ (c.fill.ensures 0 _ (λ i v l h. search rules)) _ _ c.holds.ensures

@@ -1,0 +1,6 @@
+use Rattle.tables.specs.Cells.{entry_of}
+use Rattle.tables.proofs.Stems.entry.Goals as goal
+
+pub returns : goal.returns
+unfolding entry_of
+returns c = c.point.ensures.is

@@ -1,0 +1,12 @@
+use Rattle.std.proofs.Common.{sym, length-take-le, arith}
+use Rattle.tables.specs.Checking.{laid_told, laid_not}
+use Rattle.tables.proofs.Stems.holds.Goals as goal
+
+pub slice_bounds-same-end : goal.slice_bounds-same-end
+slice_bounds-same-end c = sym (length-take-le 1024 c.args.tables.now (omega arith))
+
+pub returns-then-same : goal.returns-then-same
+returns-then-same c = laid_told _ _ _ _ _ _ _ _ c.requires.long (c.same.ensures.yes c.if-same.true) c.holds_breaks.ensures
+
+pub returns : goal.returns
+returns c = laid_not _ _ _ _ _ c.requires.long c.told-cells (c.same.ensures.no c.if-same.false)
