@@ -19,8 +19,7 @@ use Rattle.trees.specs.Area.{root_place, used_place, tokens_place, slot_size, ma
 use Rattle.trees.specs.Nodes.{preorder, size_preorder}
 use Rattle.trees.specs.Coded.{nodes_from, length_nodes}
 use Rattle.trees.specs.Slots.{slot_byte, slot_is}
-use Rattle.walks.specs.declared.Course.{Course}
-use Rattle.walks.specs.declared.Course.TheVariants.{Through, Astray}
+use Rattle.walks.specs.declared.Walk.{Walk}
 use Rattle.walks.specs.Slots.{Known, sixteen}
 use Rattle.walks.specs.Judging.{below}
 use Rattle.walks.specs.Going.{going_end, going_one}
@@ -213,49 +212,51 @@ pub data Reads (G : Grammar) (S : ℕ) (b w : List ℕ) : Option ℕ → Type 0 
 
 module _ {rows : List ℕ} {head : Head} {S : ℕ} {b w : List ℕ} where
   -- the walk went astray
-  pub reads_astray : {r : Course} → Wandered rows head S b w r → r ≡ Astray → Reads (grammar_in rows head) S b w None
+  pub reads_astray : {r : Option Walk} → Wandered rows head S b w r → r ≡ None → Reads (grammar_in rows head) S b w None
   reads_astray (Wandered.through l h) e = never (cc)
   reads_astray (Wandered.astray h) e = Reads.none (λ v. h.no (preorder v.tree) (valid_found v).walks (valid_found v).once (valid_few v))
 
-  module _ {r : Course} {i leaves : ℕ} (h : Wandered rows head S b w r) (e : r ≡ Through i leaves) where
-    ended : Ended rows head S b w i leaves
+  module _ {r : Option Walk} {k : Walk} (h : Wandered rows head S b w r) (e : r ≡ Some k) where
+    ended : Ended rows head S b w k.nodes k.leaves
     ended = go h e
       where
-        go : {r : Course} → Wandered rows head S b w r → r ≡ Through i leaves → Ended rows head S b w i leaves
-        go (Wandered.through {i = j} {leaves = k} l h) e =
-            let q : j ≡ i = cc in
-            let o : k ≡ leaves = cc in
-            rw (q, o) at h
+        go : {r : Option Walk} → Wandered rows head S b w r → r ≡ Some k → Ended rows head S b w k.nodes k.leaves
+        go (Wandered.through {k = j} l h) e = let q : j ≡ k = cc in rw q at h
         go (Wandered.astray h) e = never (cc)
 
-    pub wandered_few : (i ≤ S) × (leaves ≤ i)
-    wandered_few = (go h e, omega (arith, ended.counted, leaves_few (nodes_from w i 0), length_nodes w i 0))
+    pub wandered_few : (k.nodes ≤ S) × (k.leaves ≤ k.nodes)
+    wandered_few = (go h e, omega (arith, ended.counted, leaves_few (nodes_from w k.nodes 0), length_nodes w k.nodes 0))
       where
-        go : {r : Course} → Wandered rows head S b w r → r ≡ Through i leaves → i ≤ S
-        go (Wandered.through {i = j} l h) e = let q : j ≡ i = cc in omega arith
+        go : {r : Option Walk} → Wandered rows head S b w r → r ≡ Some k → k.nodes ≤ S
+        go (Wandered.through {k = j} l h) e = let q : j ≡ k = cc in rw q at l
         go (Wandered.astray h) e = never (cc)
 
     -- the nodes of a valid tree are those that were written
-    same : (v : Valid (grammar_in rows head) S b) → preorder v.tree ≡ nodes_from w i 0
-    same v = going_one (nodes_from w i 0) (preorder v.tree) ended.going (valid_found v).walks
+    same : (v : Valid (grammar_in rows head) S b) → preorder v.tree ≡ nodes_from w k.nodes 0
+    same v = going_one (nodes_from w k.nodes 0) (preorder v.tree) ended.going (valid_found v).walks
 
-    pub reads_header : (Heads b i leaves → ⊥) → Reads (grammar_in rows head) S b w None
-    reads_header k =
+    pub reads_header : (Heads b k.nodes k.leaves → ⊥) → Reads (grammar_in rows head) S b w None
+    reads_header n =
         Reads.none (λ v. let q = same v in
-        let o : slot_at b 0 ≡ header_bytes (get16 b root_place) (length (nodes_from w i 0)) (leaf_count (nodes_from w i 0)) = rw q at (valid_found v).header in
-        k (record { is = rw (← length_nodes w i 0, ended.counted) o }))
+        let o : slot_at b 0 ≡ header_bytes (get16 b root_place) (length (nodes_from w k.nodes 0)) (leaf_count (nodes_from w k.nodes 0)) = rw q at (valid_found v).header in
+        n (record { is = rw (← length_nodes w k.nodes 0, ended.counted) o }))
 
-    pub reads_spoilt : (m : List ℕ) → m ≡ marks_in S w → (ClearTo b m (S + 1) → ⊥) → Reads (grammar_in rows head) S b w None
-    reads_spoilt m q k =
-        let k' : ClearTo b (marks_in S w) (S + 1) → ⊥ = rw q at k in
-        Reads.none (λ v. let f : Free S b (nodes_from w i 0) = rw (same v) at (valid_found v).free in
+    reads_spoilt : (m : List ℕ) → m ≡ marks_in S w → (ClearTo b m (S + 1) → ⊥) → Reads (grammar_in rows head) S b w None
+    reads_spoilt m q n =
+        let k' : ClearTo b (marks_in S w) (S + 1) → ⊥ = rw q at n in
+        Reads.none (λ v. let f : Free S b (nodes_from w k.nodes 0) = rw (same v) at (valid_found v).free in
         k' (record { each = λ x a c. record { zero = λ z. f.zero x a (omega arith) (λ y. omega (arith, z, ended.marked.marked x y)) } }))
 
-    pub reads_tree : 1 ≤ S → S ≤ max_slots → length b ≡ area_size S → Heads b i leaves → (m : List ℕ) → m ≡ marks_in S w → ClearTo b m (S + 1) → Reads (grammar_in rows head) S b w (Some i)
+    reads_tree : 1 ≤ S → S ≤ max_slots → length b ≡ area_size S → Heads b k.nodes k.leaves → (m : List ℕ) → m ≡ marks_in S w → ClearTo b m (S + 1) → Reads (grammar_in rows head) S b w (Some k.nodes)
     reads_tree o few long hd m e h =
         let cl : ClearTo b (marks_in S w) (S + 1) = rw e at h in
-        let es = nodes_from w i 0 in
-        let q : slot_at b 0 ≡ header_bytes (get16 b root_place) (length (nodes_from w i 0)) (leaf_count (nodes_from w i 0)) = rw (length_nodes w i 0, ← ended.counted) hd.is in
-        let f : Free S b (nodes_from w i 0) = record { zero = λ x a c y. (cl.each x a (omega arith)).zero (ended.marked.free x a y) } in
+        let es = nodes_from w k.nodes 0 in
+        let q : slot_at b 0 ≡ header_bytes (get16 b root_place) (length (nodes_from w k.nodes 0)) (leaf_count (nodes_from w k.nodes 0)) = rw (length_nodes w k.nodes 0, ← ended.counted) hd.is in
+        let f : Free S b (nodes_from w k.nodes 0) = record { zero = λ x a c y. (cl.each x a (omega arith)).zero (ended.marked.free x a y) } in
         let v = found_valid o few long (record { walks = going_end es ended.going; once = ended.marked.once; header = q; free = f }) in
-        Reads.tree v.valid v.nodes (sym (length_nodes w i 0) ∙ ap length (sym v.nodes) ∙ size_preorder v.valid.tree)
+        Reads.tree v.valid v.nodes (sym (length_nodes w k.nodes 0) ∙ ap length (sym v.nodes) ∙ size_preorder v.valid.tree)
+
+    -- the slots that were not visited decide
+    pub reads_told : 1 ≤ S → S ≤ max_slots → length b ≡ area_size S → Heads b k.nodes k.leaves → (m : List ℕ) → m ≡ marks_in S w → (u : Bool) → Tells (ClearTo b m (S + 1)) u → Reads (grammar_in rows head) S b w (then_some u k.nodes)
+    reads_told o few long hd m e true c = reads_tree o few long hd m e (c.yes refl)
+    reads_told o few long hd m e false c = reads_spoilt m e (c.no refl)

@@ -1,6 +1,8 @@
 -- Whether the node in a slot can stand where a symbol is expected: what its production and tag must be, and which children it then has.
-use Rattle.std.specs.Prelude.{ℕ, zero, suc, ◌+◌, ◌*◌, ◌/◌, ◌%◌, ◌≤◌, ◌<◌, Bool, true, false, ◌≡◌, refl, ◌⊎◌, List, ◌∷◌, length, get_or, set}
+use Rattle.std.specs.Prelude.{ℕ, zero, suc, ◌+◌, ◌*◌, ◌/◌, ◌%◌, ◌≤◌, ◌<◌, Bool, true, false, ◌≡◌, refl, eqb, ◌⊎◌, List, ◌∷◌, length, get_or, set, Option, Some, None}
+use Rattle.std.proofs.lemmas.Bool.Decides.{eqb_tells}
 use Rattle.std.proofs.Common.{sym, ap, ◌∙◌, ⊎_elim, arith}
+use Rattle.std.specs.Bool.{then_some}
 use Rattle.base.specs.Choose.{never}
 use Rattle.base.specs.Tells.{Tells, tells_yes, tells_no}
 use Rattle.base.specs.Bytes.{byte_at, get16, get32, get32_two}
@@ -11,7 +13,7 @@ use Rattle.trees.specs.Area.{slot_size, symbol_place, parent_place, spare_place,
 use Rattle.trees.specs.Nodes.{leaf_of}
 use Rattle.trees.specs.Listing.{node_of, Put}
 use Rattle.walks.specs.declared.Kids.{Kids}
-use Rattle.walks.specs.declared.Kids.TheVariants.{Leaf, Body, Unfit}
+use Rattle.walks.specs.declared.Kids.TheVariants.{Leaf, Body}
 use Rattle.walks.specs.Slots.{symbol_in, production_in, parent_in, first_in, tag_in, fields, Known, Used, slot_used}
 use Rattle.walks.specs.Digits.{Digits, digits_head}
 use Rattle.walks.specs.Words.{word_count, Worded}
@@ -29,14 +31,6 @@ pub record Hangs (b : List ℕ) (s par body : ℕ) : Type 0 where
   pub parent : parent_in b s ≡ par
   pub bare : body ≡ 0 → first_in b s ≡ 0
 
--- its symbol and its production as a two-byte number
-both_in : (b : List ℕ) (s v : ℕ) → v ≡ get16 b (slot_size * s + symbol_place) → Known b → (v % 256 ≡ symbol_in b s) × (v / 256 ≡ production_in b s)
-both_in b s v e k =
-    let q : slot_size * s + 2 + 1 ≡ slot_size * s + 3 = omega arith in
-    let o = ap (byte_at b) q in
-    let c = k.small (slot_size * s + 2) in
-    (omega (arith, e, c), omega (arith, e, o, c))
-
 pub looks_low : {b : List ℕ} {s x : ℕ} → Known b → Looks b s x → x < 256
 looks_low {s = s} k h = omega (arith, h.symbol, k.small (slot_size * s + 2))
 
@@ -51,22 +45,23 @@ module _ (b : List ℕ) (s x : ℕ) where
       let o = ap (byte_at b) q in
       tells_no (λ h. let f = fields b s h.used.is in n (omega (arith, e, o, f.spare, f.spare')))
 
-  pub looks_symbol : (v : ℕ) → Known b → v ≡ get16 b (slot_size * s + symbol_place) → (v % 256 ≡ x → ⊥) → Tells (Looks b s x) false
-  looks_symbol v k e n = tells_no (λ h. n ((both_in b s v e k).0 ∙ h.symbol))
-
-  pub looks_yes : (u v y : ℕ) → Known b → slot_size * s + slot_size ≤ length b → u ≡ get16 b (slot_size * s) → u ≡ 0x444E → v ≡ get16 b (slot_size * s + spare_place) → v ≡ 0
-      → y ≡ get16 b (slot_size * s + symbol_place) → y % 256 ≡ x → Tells (Looks b s x) true
-  looks_yes u v y k l eu u' ev v' ey y' =
+  looks_yes : (u v : ℕ) → Known b → slot_size * s + slot_size ≤ length b → u ≡ get16 b (slot_size * s) → u ≡ 0x444E → v ≡ get16 b (slot_size * s + spare_place) → v ≡ 0
+      → symbol_in b s ≡ x → Tells (Looks b s x) true
+  looks_yes u v k l eu u' ev v' e =
       let q : slot_size * s + 14 + 1 ≡ slot_size * s + 15 = omega arith in
       let o = ap (byte_at b) q in
       let c0 = k.small (slot_size * s) in
       let c1 = k.small (slot_size * s + 1) in
       tells_yes (record {
         used = slot_used b s k l (omega (arith, eu, u', c0, c1)) (omega (arith, eu, u', c0, c1)) (omega (arith, ev, v', o)) (omega (arith, ev, v', o));
-        symbol = sym (both_in b s y ey k).0 ∙ y';
+        symbol = e;
       })
 
-pub ruleset looking = (looks_mark, looks_spare)
+  -- the symbol decides
+  pub looks_told : (u v y : ℕ) → Known b → slot_size * s + slot_size ≤ length b → u ≡ get16 b (slot_size * s) → u ≡ 0x444E → v ≡ get16 b (slot_size * s + spare_place) → v ≡ 0
+      → y ≡ symbol_in b s → Tells (Looks b s x) (eqb y x)
+  looks_told u v y k l eu u' ev v' ey =
+      ⊎_elim (λ (h : (eqb y x ≡ true) × (y ≡ x)). rw h.0 (looks_yes u v k l eu u' ev v' (sym ey ∙ h.1))) (λ (h : (eqb y x ≡ false) × (y ≡ x → ⊥)). rw h.0 (tells_no (λ f. h.1 (ey ∙ f.symbol)))) (eqb_tells y x)
 
 module _ (b : List ℕ) (s par body : ℕ) where
   whole : parent_in b s + 65536 * first_in b s ≡ get32 b (slot_size * s + parent_place)
@@ -91,10 +86,10 @@ pub ruleset hanging = (hangs_bare, hangs_not, hangs_below, hangs_elsewhere)
 -- ---- the children
 
 -- a node with symbol x, production p and tag g is a leaf, or its children have the symbols of a body, or there is no such node
-pub data Kin (rows : List ℕ) (t count x p g : ℕ) : Kids → Type 0 where
-  leaf : p ≡ 0 → TerminalOf t x → Kin rows t count x p g Leaf
-  node : {q r : ℕ} → p ≡ suc q → q < count → left_at rows q ≡ x → g ≡ 0 → Digits (body_at rows q) r → Kin rows t count x p g (Body r)
-  none : (p ≡ 0 → TerminalOf t x → ⊥) → ((q : ℕ) → p ≡ suc q → q < count → left_at rows q ≡ x → g ≡ 0 → ⊥) → Kin rows t count x p g Unfit
+pub data Kin (rows : List ℕ) (t count x p g : ℕ) : Option Kids → Type 0 where
+  leaf : p ≡ 0 → TerminalOf t x → Kin rows t count x p g (Some Leaf)
+  node : {q r : ℕ} → p ≡ suc q → q < count → left_at rows q ≡ x → g ≡ 0 → Digits (body_at rows q) r → Kin rows t count x p g (Some (Body r))
+  none : (p ≡ 0 → TerminalOf t x → ⊥) → ((q : ℕ) → p ≡ suc q → q < count → left_at rows q ≡ x → g ≡ 0 → ⊥) → Kin rows t count x p g None
 
 pub below : (q n : ℕ) → (q < n) ⊎ (n ≤ q)
 below q zero = ◌⊎◌.inr (omega arith)
@@ -102,27 +97,27 @@ below zero (suc n) = ◌⊎◌.inl (omega arith)
 below (suc q) (suc n) = ⊎_elim (λ l. ◌⊎◌.inl (omega arith)) (λ l. ◌⊎◌.inr (omega arith)) (below q n)
 
 module _ (rows ws : List ℕ) (t count x p g : ℕ) where
-  pub kin_zero : p ≡ 0 → x ≡ 0 → Kin rows t count x p g Unfit
+  pub kin_zero : p ≡ 0 → x ≡ 0 → Kin rows t count x p g None
   kin_zero e z = Kin.none (λ _ h. omega (arith, h.0, z)) (λ q i. omega (arith, e, i))
 
-  pub kin_over : p ≡ 0 → t < x → Kin rows t count x p g Unfit
+  pub kin_over : p ≡ 0 → t < x → Kin rows t count x p g None
   kin_over e z = Kin.none (λ _ h. omega (arith, h.1, z)) (λ q i. omega (arith, e, i))
 
-  pub kin_leaf : p ≡ 0 → (x ≡ 0 → ⊥) → x ≤ t → Kin rows t count x p g Leaf
+  pub kin_leaf : p ≡ 0 → (x ≡ 0 → ⊥) → x ≤ t → Kin rows t count x p g (Some Leaf)
   kin_leaf e z l = Kin.leaf e (omega (arith, z), l)
 
   module _ (h : Worded rows count ws) (n : p ≡ 0 → ⊥) (low : p < word_count) where
-    pub kin_left : (get_or ws p 0 % 128 ≡ 64 + x → ⊥) → Kin rows t count x p g Unfit
+    pub kin_left : (get_or ws p 0 % 128 ≡ 64 + x → ⊥) → Kin rows t count x p g None
     kin_left z =
         Kin.none (λ e. absurd (n e)) (λ q i m o _. let d : Digits (left_at rows q ∷ body_at rows q) (get_or ws p 0) = rw i (h.row q m (omega arith)) in z ((digits_head d).0 ∙ ap (λ (y : ℕ). 64 + y) o))
 
-    pub kin_tag : (g ≡ 0 → ⊥) → Kin rows t count x p g Unfit
+    pub kin_tag : (g ≡ 0 → ⊥) → Kin rows t count x p g None
     kin_tag z = Kin.none (λ e. absurd (n e)) (λ q i m o u. z u)
 
-    pub kin_node : get_or ws p 0 % 128 ≡ 64 + x → g ≡ 0 → Kin rows t count x p g (Body (get_or ws p 0 / 128))
+    pub kin_node : get_or ws p 0 % 128 ≡ 64 + x → g ≡ 0 → Kin rows t count x p g (Some (Body (get_or ws p 0 / 128)))
     kin_node e z = go p n low e
       where
-        go : (p : ℕ) → (p ≡ 0 → ⊥) → p < word_count → get_or ws p 0 % 128 ≡ 64 + x → Kin rows t count x p g (Body (get_or ws p 0 / 128))
+        go : (p : ℕ) → (p ≡ 0 → ⊥) → p < word_count → get_or ws p 0 % 128 ≡ 64 + x → Kin rows t count x p g (Some (Body (get_or ws p 0 / 128)))
         go zero n low e = absurd (n refl)
         go (suc q) n low e =
             ⊎_elim
@@ -133,82 +128,67 @@ module _ (rows ws : List ℕ) (t count x p g : ℕ) where
 pub ruleset kinds = (kin_zero, kin_over, kin_leaf, kin_left, kin_tag, kin_node)
 
 -- the children's symbols are the digits of r, none for a leaf, which counts as 1
-pub data Counts : Kids → ℕ → ℕ → Type 0 where
-  leaf : Counts Leaf 0 1
-  body : {r : ℕ} → Counts (Body r) r 0
+pub data Counts : Option Kids → ℕ → ℕ → Type 0 where
+  leaf : Counts (Some Leaf) 0 1
+  body : {r : ℕ} → Counts (Some (Body r)) r 0
 
-pub kin_counts : {rows : List ℕ} {t count x p g r leaf : ℕ} {k : Kids} → Kin rows t count x p g k → Counts k r leaf → leaf ≡ leaf_of p
+pub kin_counts : {rows : List ℕ} {t count x p g r leaf : ℕ} {k : Option Kids} → Kin rows t count x p g k → Counts k r leaf → leaf ≡ leaf_of p
 kin_counts (Kin.leaf e h) Counts.leaf = sym (ap leaf_of e)
 kin_counts (Kin.node e l o z d) Counts.body = sym (ap leaf_of e)
 kin_counts (Kin.none _ _) c = elim c [ ]
 
+counts_one : {k : Option Kids} {r v l m : ℕ} → Counts k r l → Counts k v m → r ≡ v
+counts_one Counts.leaf Counts.leaf = refl
+counts_one Counts.body Counts.body = refl
+
+-- with this found of a node's children, their symbols are the digits of `body`, and there are so many leaves then
+pub record Taken (k : Option Kids) (leaves body leaves' : ℕ) : Type 0 where
+  pub leaf : ℕ
+  pub counts : Counts k body leaf
+  pub sum : leaves' ≡ leaves + leaf
+
+module _ {k : Option Kids} (leaves body leaves' : ℕ) where
+  pub taken_leaf : k ≡ Some Leaf → body ≡ 0 → leaves' ≡ leaves + 1 → Taken k leaves body leaves'
+  taken_leaf e z o = record { leaf = 1; counts = rw (e, z) Counts.leaf; sum = o }
+
+  pub taken_body : (r : ℕ) → k ≡ Some (Body r) → body ≡ r → leaves' ≡ leaves → Taken k leaves body leaves'
+  taken_body r e z o = record { leaf = 0; counts = rw (e, z) Counts.body; sum = omega (arith, o) }
+
 -- ---- the visit
 
 -- slot s is the node that is expected, and this is found of its children
-pub record Meets (rows : List ℕ) (t count : ℕ) (b : List ℕ) (s par x : ℕ) (k : Kids) : Type 0 where
+pub record Meets (rows : List ℕ) (t count : ℕ) (b : List ℕ) (s par x : ℕ) (k : Option Kids) : Type 0 where
   pub looks : Looks b s x
   pub kin : Kin rows t count x (production_in b s) (tag_in b s) k
   pub tag : tag_in b s < tag_space
   pub hangs : {r leaf : ℕ} → Counts k r leaf → Hangs b s par r
 
 -- slot s was written as node i and marked, or it is none of the area, or marked, or not the node that is expected
-pub data Visited (rows : List ℕ) (t count S : ℕ) (b : List ℕ) (s par x : ℕ) (w : List ℕ) (i : ℕ) (w' : List ℕ) : Kids → Type 0 where
-  met : {k : Kids} {v : List ℕ} → (k ≡ Unfit → ⊥) → s ≤ S → byte_at w (marks_at S + s) ≡ 0 → Meets rows t count b s par x k
-      → Put w i (node_of s (symbol_in b s) (production_in b s) (tag_in b s)) v → w' ≡ set v (marks_at S + s) 1 → Visited rows t count S b s par x w i w' k
-  over : S < s → Visited rows t count S b s par x w i w' Unfit
-  marked : s ≤ S → (byte_at w (marks_at S + s) ≡ 0 → ⊥) → Visited rows t count S b s par x w i w' Unfit
-  unfit : (Looks b s x → Kin rows t count x (production_in b s) (tag_in b s) Unfit) → Visited rows t count S b s par x w i w' Unfit
-  stray : {k : Kids} {r leaf : ℕ} → Kin rows t count x (production_in b s) (tag_in b s) k → Counts k r leaf → (Hangs b s par r → ⊥) → Visited rows t count S b s par x w i w' Unfit
+pub data Visited (rows : List ℕ) (t count S : ℕ) (b : List ℕ) (s par x : ℕ) (w : List ℕ) (i : ℕ) (w' : List ℕ) : Option Kids → Type 0 where
+  met : {k : Kids} {v : List ℕ} → s ≤ S → byte_at w (marks_at S + s) ≡ 0 → Meets rows t count b s par x (Some k)
+      → Put w i (node_of s (symbol_in b s) (production_in b s) (tag_in b s)) v → w' ≡ set v (marks_at S + s) 1 → Visited rows t count S b s par x w i w' (Some k)
+  over : S < s → Visited rows t count S b s par x w i w' None
+  marked : s ≤ S → (byte_at w (marks_at S + s) ≡ 0 → ⊥) → Visited rows t count S b s par x w i w' None
+  unfit : (Looks b s x → Kin rows t count x (production_in b s) (tag_in b s) None) → Visited rows t count S b s par x w i w' None
+  stray : {k : Option Kids} {r leaf : ℕ} → Kin rows t count x (production_in b s) (tag_in b s) k → Counts k r leaf → (Hangs b s par r → ⊥) → Visited rows t count S b s par x w i w' None
 
 module _ (rows : List ℕ) (t count S : ℕ) (b : List ℕ) (s par x : ℕ) (w : List ℕ) (i : ℕ) where
-  pub visited_unlike : (u : Bool) → Tells (Looks b s x) u → u ≡ false → Visited rows t count S b s par x w i w Unfit
+  pub visited_unlike : (u : Bool) → Tells (Looks b s x) u → u ≡ false → Visited rows t count S b s par x w i w None
   visited_unlike u h e = Visited.unfit (λ f. absurd (h.no e f))
 
   module _ (at : ℕ) (ea : at ≡ marks_at S) (l : s ≤ S) where
-    pub visited_marked : (byte_at w (at + s) ≡ 0 → ⊥) → Visited rows t count S b s par x w i w Unfit
+    pub visited_marked : (byte_at w (at + s) ≡ 0 → ⊥) → Visited rows t count S b s par x w i w None
     visited_marked n = Visited.marked l (λ z. n (rw ea z))
 
-    module _ (v g : ℕ) (known : Known b) (ev : v ≡ get16 b (slot_size * s + symbol_place)) (eg : g ≡ tag_in b s) (r : Kids) (k : Kin rows t count x (v / 256) g r) where
-      ep : v / 256 ≡ production_in b s
-      ep = (both_in b s v ev known).1
+    module _ (g : ℕ) (eg : g ≡ tag_in b s) (r : Option Kids) (k : Kin rows t count x (production_in b s) g r) where
+      pub visited_unfit : r ≡ None → Visited rows t count S b s par x w i w None
+      visited_unfit e = Visited.unfit (λ f. rw (e, eg) at k)
 
-      pub visited_unfit : r ≡ Unfit → Visited rows t count S b s par x w i w Unfit
-      visited_unfit e = Visited.unfit (λ f. rw (e, ep, eg) at k)
-
-      module _ (u : Bool) (w' : List ℕ) where
-        visited_stray : {o : Kids} {y leaf : ℕ} → r ≡ o → Counts o y leaf → Tells (Hangs b s par y) u → u ≡ false → Visited rows t count S b s par x w i w' Unfit
-        visited_stray er c h e = Visited.stray (rw (er, ep, eg) at k) c (h.no e)
-
-        pub stray_leaf : r ≡ Leaf → Tells (Hangs b s par 0) u → u ≡ false → Visited rows t count S b s par x w i w' Unfit
-        stray_leaf er h e = visited_stray er Counts.leaf h e
-
-        pub stray_body : (y : ℕ) → r ≡ Body y → Tells (Hangs b s par y) u → u ≡ false → Visited rows t count S b s par x w i w' Unfit
-        stray_body y er h e = visited_stray er Counts.body h e
-
-      module _ (z : byte_at w (at + s) ≡ 0) (u : Bool) (h : Tells (Looks b s x) u) (e : u ≡ true) (lg : g < tag_space) (o : Bool) (eo : o ≡ true) (w1 w' : List ℕ) (ew : w' ≡ set w1 (at + s) 1) where
-        visited_met : {j : Kids} → r ≡ j → (j ≡ Unfit → ⊥) → ((y leaf : ℕ) → Counts j y leaf → Hangs b s par y) → Put w i (node_of s (v % 256) (v / 256) g) w1 → Visited rows t count S b s par x w i w' j
-        visited_met {j} er n hs put =
-            let meets : Meets rows t count b s par x j = record { looks = h.yes e; kin = rw (er, ep, eg) at k; tag = rw eg at lg; hangs = λ {r} {leaf = l} c. hs r l c } in
-            Visited.met n l (rw ea at z) meets (rw ((both_in b s v ev known).0, ep, eg) at put) (rw ea at ew)
-
-        pub visited_leaf : r ≡ Leaf → Tells (Hangs b s par 0) o → Put w i (node_of s (v % 256) 0 g) w1 → Visited rows t count S b s par x w i w' Leaf
-        visited_leaf er hg put = visited_met er (λ y. never (cc)) hs (rw (go k er) put)
-          where
-            hs : (y leaf : ℕ) → Counts Leaf y leaf → Hangs b s par y
-            hs y l Counts.leaf = hg.yes eo
-
-            go : {o : Kids} → Kin rows t count x (v / 256) g o → o ≡ Leaf → v / 256 ≡ 0
-            go (Kin.leaf y q) er = y
-            go (Kin.node y q a c d) er = never (cc)
-            go (Kin.none y q) er = never (cc)
-
-        pub visited_body : (y : ℕ) → r ≡ Body y → Tells (Hangs b s par y) o → Put w i (node_of s (v % 256) (v / 256) 0) w1 → Visited rows t count S b s par x w i w' (Body y)
-        visited_body y er hg put = visited_met er (λ y. never (cc)) hs (rw (go k er) put)
-          where
-            hs : (v leaf : ℕ) → Counts (Body y) v leaf → Hangs b s par v
-            hs v l Counts.body = hg.yes eo
-
-            go : {o : Kids} → Kin rows t count x (v / 256) g o → o ≡ Body y → g ≡ 0
-            go (Kin.leaf y q) er = never (cc)
-            go (Kin.node y q a c d) er = c
-            go (Kin.none y q) er = never (cc)
+      -- the links decide
+      pub visited_hung : byte_at w (at + s) ≡ 0 → Looks b s x → g < tag_space → (j : Kids) → r ≡ Some j → (body leaf : ℕ) → Taken (Some j) 0 body leaf → (u : Bool) → Tells (Hangs b s par body) u → (w1 w' : List ℕ)
+          → Put w i (node_of s x (production_in b s) g) w1 → w' ≡ set w1 (at + s) 1 → Visited rows t count S b s par x w i w' (then_some u j)
+      visited_hung z f lg j er r1 l1 tk true h w1 w' put ew =
+          let meets : Meets rows t count b s par x (Some j) =
+          record { looks = f; kin = rw (er, eg) at k; tag = rw eg at lg; hangs = λ c. let q : r1 ≡ _ = counts_one tk.counts c in rw q at (h.yes refl) } in
+          Visited.met l (rw ea at z) meets (rw (← f.symbol, eg) at put) (rw ea at ew)
+      visited_hung z f lg j er r1 l1 tk false h w1 w' put ew = Visited.stray (rw (er, eg) at k) tk.counts (h.no refl)

@@ -1,5 +1,5 @@
 -- A turn of the walk: what a slot that was visited is, with the frames below and behind it, and where the walk stops.
-use Rattle.std.specs.Prelude.{ℕ, suc, ◌<◌, ◌≡◌, refl, List, [], ◌∷◌}
+use Rattle.std.specs.Prelude.{ℕ, suc, ◌<◌, ◌≡◌, refl, List, [], ◌∷◌, Option, None}
 use Rattle.std.proofs.Common.{sym, ◌∙◌, arith}
 use Rattle.std.proofs.Math.Logic.{by_cases}
 use Rattle.std.proofs.Math.Decide.{ℕ_discrete}
@@ -12,7 +12,6 @@ use Rattle.trees.specs.Area.{slot_bytes, slot_at}
 use Rattle.trees.specs.Nodes.{Node, leaf_node, inner_node}
 use Rattle.trees.specs.Listing.{node_of}
 use Rattle.walks.specs.declared.Kids.{Kids}
-use Rattle.walks.specs.declared.Kids.TheVariants.{Unfit}
 use Rattle.walks.specs.Slots.{symbol_in, production_in, parent_in, first_in, next_in, tag_in, fields, Used, fields_used}
 use Rattle.walks.specs.Frames.{Frame, frame, Stands, Walks}
 use Rattle.walks.specs.Going.{Stuck, blocked}
@@ -66,10 +65,10 @@ module _ (rows : List ℕ) (head : Head) where
       stuck_seen : (Seen S b s par x xs fs → ⊥) → Stuck G· S b (ahead ∷ fs)
       stuck_seen k = record { no = λ es h. k (seen refl l h) }
 
-      pub stuck_unfit : (Looks b s x → Kin rows head.t head.count x (production_in b s) (tag_in b s) Unfit) → Stuck G· S b (ahead ∷ fs)
+      pub stuck_unfit : (Looks b s x → Kin rows head.t head.count x (production_in b s) (tag_in b s) None) → Stuck G· S b (ahead ∷ fs)
       stuck_unfit k = stuck_seen go
         where
-          none : Kin rows head.t head.count x (production_in b s) (tag_in b s) Unfit → Seen S b s par x xs fs → ⊥
+          none : Kin rows head.t head.count x (production_in b s) (tag_in b s) None → Seen S b s par x xs fs → ⊥
           none (Kin.none a c) (Seen.leaf u i p z w y h) = a z w
           none (Kin.none a c) (Seen.node {q = q} u i p z w y g h) = c q z w y g
 
@@ -84,10 +83,10 @@ module _ (rows : List ℕ) (head : Head) where
           go (Seen.leaf u i p o w y h) = blocked fs behind m z h (frame 0 s [] ∷ []) refl
           go (Seen.node {q = q} u i p o w y g h) = blocked fs behind m z h (frame (first_in b s) s (body_at rows q) ∷ []) refl
 
-      pub stuck_stray : {k : Kids} {r leaf : ℕ} → Kin rows head.t head.count x (production_in b s) (tag_in b s) k → Counts k r leaf → (Hangs b s par r → ⊥) → Stuck G· S b (ahead ∷ fs)
+      pub stuck_stray : {k : Option Kids} {r leaf : ℕ} → Kin rows head.t head.count x (production_in b s) (tag_in b s) k → Counts k r leaf → (Hangs b s par r → ⊥) → Stuck G· S b (ahead ∷ fs)
       stuck_stray h c m = stuck_seen (λ y. m (go h c y))
         where
-          go : {k : Kids} {v l : ℕ} → Kin rows head.t head.count x (production_in b s) (tag_in b s) k → Counts k v l → Seen S b s par x xs fs → Hangs b s par v
+          go : {k : Option Kids} {v l : ℕ} → Kin rows head.t head.count x (production_in b s) (tag_in b s) k → Counts k v l → Seen S b s par x xs fs → Hangs b s par v
           go k c (Seen.leaf u i p o w y h) = record { parent = p; bare = λ _. y }
           go (Kin.none _ _) c (Seen.node u i p o w y g h) = elim c [ ]
           go (Kin.leaf z' w') Counts.leaf (Seen.node {q = q} u i p o w y g h) = absurd (omega (arith, o, z'))
@@ -102,7 +101,7 @@ module _ (rows : List ℕ) (head : Head) where
     -- ---- the node that stands there
 
     -- a node without children
-    pub stands_bare : {k : Kids} {r leaf : ℕ} → Meets rows head.t head.count b s par x k → Counts k r leaf → r ≡ 0 → next_in b s < 65536 → Stands G· b ahead written (frame 0 s []) behind
+    pub stands_bare : {k : Option Kids} {r leaf : ℕ} → Meets rows head.t head.count b s par x k → Counts k r leaf → r ≡ 0 → next_in b s < 65536 → Stands G· b ahead written (frame 0 s []) behind
     unfolding grammar_in
     stands_bare h k e ln = go h.kin k e
       where
@@ -115,7 +114,7 @@ module _ (rows : List ℕ) (head : Head) where
         o : first_in b s ≡ 0
         o = (h.hangs k).bare e
 
-        go : {k : Kids} {v l : ℕ} → Kin rows head.t head.count x (production_in b s) (tag_in b s) k → Counts k v l → v ≡ 0 → Stands G· b ahead written (frame 0 s []) behind
+        go : {k : Option Kids} {v l : ℕ} → Kin rows head.t head.count x (production_in b s) (tag_in b s) k → Counts k v l → v ≡ 0 → Stands G· b ahead written (frame 0 s []) behind
         go (Kin.none _ _) c e = elim c [ ]
         go (Kin.leaf z y) Counts.leaf e =
             let q : slot_at b s ≡ slot_bytes x 0 par 0 (next_in b s) (tag_in b s) = rw (f.symbol, z, a, o) at f.used.is in
@@ -136,7 +135,7 @@ module _ (rows : List ℕ) (head : Head) where
       pub digits : Digits symbols r
       pub stands : Stands G· b ahead written (frame (first_in b s) s symbols) behind
 
-    pub stands_bearing : {k : Kids} {r leaf : ℕ} → Meets rows head.t head.count b s par x k → Counts k r leaf → (r ≡ 0 → ⊥) → first_in b s < 65536 → next_in b s < 65536 → Bears r
+    pub stands_bearing : {k : Option Kids} {r leaf : ℕ} → Meets rows head.t head.count b s par x k → Counts k r leaf → (r ≡ 0 → ⊥) → first_in b s < 65536 → next_in b s < 65536 → Bears r
     unfolding grammar_in
     stands_bearing h k m lf ln = go h.kin k m
       where
@@ -146,7 +145,7 @@ module _ (rows : List ℕ) (head : Head) where
         a : parent_in b s ≡ par
         a = (h.hangs k).parent
 
-        go : {k : Kids} {v l : ℕ} → Kin rows head.t head.count x (production_in b s) (tag_in b s) k → Counts k v l → (v ≡ 0 → ⊥) → Bears v
+        go : {k : Option Kids} {v l : ℕ} → Kin rows head.t head.count x (production_in b s) (tag_in b s) k → Counts k v l → (v ≡ 0 → ⊥) → Bears v
         go (Kin.none _ _) c m = elim c [ ]
         go (Kin.leaf z y) Counts.leaf m = absurd (m refl)
         go (Kin.node {q = q} z y c g d) Counts.body m =

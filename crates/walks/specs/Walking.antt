@@ -1,7 +1,7 @@
 -- The walk's loop: the nodes written, the slot to visit and the frames that wait, the marks and the leaves counted, at the start, after a turn, and at the end.
-use Rattle.std.specs.Prelude.{ℕ, zero, suc, ◌+◌, ◌-◌, ◌*◌, ◌/◌, ◌%◌, ◌≤◌, ◌<◌, ◌≡◌, length, set}
+use Rattle.std.specs.Prelude.{ℕ, zero, suc, ◌+◌, ◌-◌, ◌*◌, ◌/◌, ◌%◌, ◌≤◌, ◌<◌, ◌≡◌, length, set, Option, Some, None, ◌⊎◌}
 use Rattle.std.proofs.Math.Path.{refl}
-use Rattle.std.proofs.Common.{sym, ap, subst, ◌∙◌, inl, inr, get_or-set_other}
+use Rattle.std.proofs.Common.{sym, ap, subst, ◌∙◌, inl, inr, ⊎_elim, get_or-set_other}
 use mathlib.Core.List.{List, [], ◌∷◌, ◌++◌}
 use native.Mathlib.Omega.{arith}
 use Rattle.base.specs.Choose.{never}
@@ -17,31 +17,16 @@ use Rattle.trees.specs.Coded.{node_size, nodes_from, length_nodes}
 use Rattle.trees.specs.Spread.{slots_of, slots_append}
 use Rattle.trees.specs.Listing.{node_of, nodes_kept, put_last}
 use Rattle.walks.specs.declared.Kids.{Kids}
-use Rattle.walks.specs.declared.Kids.TheVariants.{Leaf, Body, Unfit}
-use Rattle.walks.specs.declared.Course.{Course}
-use Rattle.walks.specs.declared.Course.TheVariants.{Through, Astray}
+use Rattle.walks.specs.declared.Walk.{Walk}
 use Rattle.walks.specs.Slots.{symbol_in, production_in, first_in, next_in, tag_in}
 use Rattle.walks.specs.Frames.{Frame, frame, Within}
 use Rattle.walks.specs.Marks.{Marked, marked_none, marked_more, marked_room}
 use Rattle.walks.specs.Going.{Waits, Kept, Turn, Going, Lost, going_start, going_turn, lost_stuck, lost_over, lost_marked}
 use Rattle.walks.specs.Reading.{leaf_count, leaves_append, leaves_few, root_frame}
 use Rattle.walks.specs.Digits.{Digits, Split, digits_none, digits_split, digits_some}
-use Rattle.walks.specs.Judging.{Counts, kin_counts, Meets, Visited}
+use Rattle.walks.specs.Judging.{Counts, Taken, kin_counts, Meets, Visited}
 use Rattle.walks.specs.Stacked.{frame_size, frame_parent, place_of, marks_at, walk_size, rest_at, Held, held_same, Framed, marks_in, length_marks, mark_at, marks_set, marks_same}
 use Rattle.walks.specs.Turning.{ahead, behind, written, Bears, stuck_unfit, stuck_behind, stuck_stray, stands_bare, stands_bearing}
-
--- with this found of a node's children, their symbols are the digits of `body`, and there are so many leaves then
-pub record Taken (k : Kids) (leaves body leaves' : ℕ) : Type 0 where
-  leaf : ℕ
-  counts : Counts k body leaf
-  sum : leaves' ≡ leaves + leaf
-
-module _ {k : Kids} (leaves body leaves' : ℕ) where
-  pub taken_leaf : k ≡ Leaf → body ≡ 0 → leaves' ≡ leaves + 1 → Taken k leaves body leaves'
-  taken_leaf e z o = record { leaf = 1; counts = rw (e, z) Counts.leaf; sum = o }
-
-  pub taken_body : (r : ℕ) → k ≡ Body r → body ≡ r → leaves' ≡ leaves → Taken k leaves body leaves'
-  taken_body r e z o = record { leaf = 0; counts = rw (e, z) Counts.body; sum = omega (arith, o) }
 
 length_slots_of : (es : List Node) → length (slots_of es) ≡ length es
 length_slots_of [] = refl
@@ -80,9 +65,9 @@ module _ (rows : List ℕ) (head : Head) (S : ℕ) (b : List ℕ) where
     pub counted : leaves ≡ leaf_count (nodes_from w i 0)
 
   -- the walk ended with so many nodes and leaves, or there is none
-  pub data Wandered (w : List ℕ) : Course → Type 0 where
-    through : {i leaves : ℕ} → i ≤ S → Ended w i leaves → Wandered w (Through i leaves)
-    astray : Lost gram S b origin → Wandered w Astray
+  pub data Wandered (w : List ℕ) : Option Walk → Type 0 where
+    through : {k : Walk} → k.nodes ≤ S → Ended w k.nodes k.leaves → Wandered w (Some k)
+    astray : Lost gram S b origin → Wandered w None
 
   pub walking_start : (w : List ℕ) (top root : ℕ) → root ≡ get16 b root_place → marks_in S w ≡ set (zeros (S + 1)) 0 1 → top ≡ node_size * S → head.start < symbol_space
       → Walking w top 0 0 root 0 ((64 + head.start) % 64) ((64 + head.start) / 128)
@@ -106,7 +91,7 @@ module _ (rows : List ℕ) (head : Head) (S : ℕ) (b : List ℕ) where
       }
 
   -- slot s was written as node i and marked
-  record Entered (w : List ℕ) (i s par x : ℕ) (k : Kids) (w' : List ℕ) : Type 0 where
+  record Entered (w : List ℕ) (i s par x : ℕ) (k : Option Kids) (w' : List ℕ) : Type 0 where
     within : s ≤ S
     free : byte_at (marks_in S w) s ≡ 0
     meets : Meets rows head.t head.count b s par x k
@@ -114,12 +99,12 @@ module _ (rows : List ℕ) (head : Head) (S : ℕ) (b : List ℕ) where
     marks : marks_in S w' ≡ set (marks_in S w) s 1
     others : (j : ℕ) → node_size * i + node_size ≤ j → j < marks_at S → byte_at w' j ≡ byte_at w j
 
-  entered : {w w' : List ℕ} {i s par x : ℕ} {k : Kids} → i ≤ S → (k ≡ Unfit → ⊥) → Visited rows head.t head.count S b s par x w i w' k → Entered w i s par x k w'
+  entered : {w w' : List ℕ} {i s par x : ℕ} {k : Option Kids} → i ≤ S → (k ≡ None → ⊥) → Visited rows head.t head.count S b s par x w i w' k → Entered w i s par x k w'
   entered {w} {w'} {i} {s} li n (Visited.over y) = absurd (n refl)
   entered {w} {w'} {i} {s} li n (Visited.marked y z) = absurd (n refl)
   entered {w} {w'} {i} {s} li n (Visited.unfit y) = absurd (n refl)
   entered {w} {w'} {i} {s} li n (Visited.stray y z o) = absurd (n refl)
-  entered {w} {w'} {i} {s} li n (Visited.met {v = v} y l z h p e) =
+  entered {w} {w'} {i} {s} li n (Visited.met {v = v} l z h p e) =
       let o : (j : ℕ) → j < marks_at S → byte_at w' j ≡ byte_at v j = λ j m. ap (λ (u : List ℕ). byte_at u j) e ∙ get_or-set_other v (marks_at S + s) j 1 0 (omega arith) in
       let q : marks_in S w' ≡ set (marks_in S v) s 1 = ap (marks_in S) e ∙ marks_set S v s 1 l in
       let y : marks_in S v ≡ marks_in S w = marks_same S w v p.long (λ j m. p.behind j (omega arith)) in
@@ -136,14 +121,14 @@ module _ (rows : List ℕ) (head : Head) (S : ℕ) (b : List ℕ) where
     pub walking_leaves : leaves ≤ i
     walking_leaves = omega (arith, h.gone.counted, leaves_few (nodes_from w i 0), length_nodes w i 0)
 
-    module _ {w1 : List ℕ} {r : Kids} (v : Visited rows head.t head.count S b s par x w i w1 r) where
+    module _ {w1 : List ℕ} {r : Option Kids} (v : Visited rows head.t head.count S b s par x w i w1 r) where
       -- ---- where there is no walk
 
-      pub wandered_unfit : (w' : List ℕ) → r ≡ Unfit → Wandered w' Astray
+      pub wandered_unfit : (w' : List ℕ) → r ≡ None → Wandered w' None
       wandered_unfit w' e = Wandered.astray (go v e)
         where
-          go : {r : Kids} → Visited rows head.t head.count S b s par x w i w1 r → r ≡ Unfit → Lost gram S b origin
-          go (Visited.met n l z m p q) e = absurd (n e)
+          go : {r : Option Kids} → Visited rows head.t head.count S b s par x w i w1 r → r ≡ None → Lost gram S b origin
+          go (Visited.met l z m p q) e = never (cc)
           go (Visited.over z) e = lost_over (nodes_from w i 0) h.gone.going z
           go (Visited.marked l z) e = lost_marked (nodes_from w i 0) h.gone.going (marks_in S w) h.gone.marked (λ o. z (sym (mark_at S w s l) ∙ o))
           go (Visited.unfit z) e = lost_stuck (nodes_from w i 0) h.gone.going (stuck_unfit rows head S b s par x h.symbols h.frames h.low z)
@@ -153,11 +138,11 @@ module _ (rows : List ℕ) (head : Head) (S : ℕ) (b : List ℕ) where
         en : Entered w i s par x r w1
         en = entered h.room (go tk.counts) v
           where
-            go : {k : Kids} {u l : ℕ} → Counts k u l → k ≡ Unfit → ⊥
+            go : {k : Option Kids} {u l : ℕ} → Counts k u l → k ≡ None → ⊥
             go Counts.leaf e = never (cc)
             go Counts.body e = never (cc)
 
-        pub wandered_behind : (w' : List ℕ) (u : ℕ) → u ≡ next_in b s → (u ≡ 0 → ⊥) → rest ≡ 0 → Wandered w' Astray
+        pub wandered_behind : (w' : List ℕ) (u : ℕ) → u ≡ next_in b s → (u ≡ 0 → ⊥) → rest ≡ 0 → Wandered w' None
         wandered_behind w' u e z y =
             Wandered.astray (lost_stuck (nodes_from w i 0) h.gone.going (stuck_behind rows head S b s par x h.symbols h.frames h.low (λ o. z (e ∙ o)) (digits_none h.digits y)))
 
@@ -177,6 +162,10 @@ module _ (rows : List ℕ) (head : Head) (S : ℕ) (b : List ℕ) where
         pub walking_room : i < S
         walking_room =
             omega (arith, marked_room S (marks_in S w) (nodes_from w i 0) s h.gone.marked h.gone.within some en.free, length_slots_of (nodes_from w i 0), length_nodes w i 0)
+
+        -- with no siblings behind the slot names none
+        pub none_behind : {next : ℕ} → ((rest ≡ 0) × (next ≡ 0)) ⊎ (rest ≡ 0 → ⊥) → rest ≡ 0 → next ≡ 0
+        none_behind {next} h z = ⊎_elim (λ (e : (rest ≡ 0) × (next ≡ 0)). e.1) (λ n. absurd (n z)) h
 
         module _ (lw : walk_size S ≤ length w) (few : S ≤ max_slots) (next : ℕ) (ex : next ≡ next_in b s) (ln : next < 65536) where
           abbrev e : Node
@@ -256,14 +245,14 @@ module _ (rows : List ℕ) (head : Head) (S : ℕ) (b : List ℕ) where
                     record { symbols = q.rest; frames = fs; gone = y2; digits = q.digits; k = k; held = o; place = z; few = omega (arith, fw); room = omega arith; low = lp }
 
             -- no frame waits
-            pub walking_end : (rest ≡ 0) → next ≡ 0 → top ≡ node_size * S → Wandered w1 (Through (i + 1) leaves')
+            pub walking_end : (rest ≡ 0) → next ≡ 0 → top ≡ node_size * S → Wandered w1 (Some (record { nodes = i + 1; leaves = leaves' }))
             walking_end zr zn zt = go h.place kept (up zr zn)
               where
-                go : {k : ℕ} {fs : List Frame} → top ≡ place_of S k → Held w1 S k fs → Gone w1 (i + 1) leaves' fs → Wandered w1 (Through (i + 1) leaves')
+                go : {k : ℕ} {fs : List Frame} → top ≡ place_of S k → Held w1 S k fs → Gone w1 (i + 1) leaves' fs → Wandered w1 (Some (record { nodes = i + 1; leaves = leaves' }))
                 go pl Held.nil y =
                     let o = walking_room in
                     let m : i + 1 ≤ S = omega arith in
-                    Wandered.through m (record { going = y.going; marked = y.marked; counted = y.counted })
+                    Wandered.through {k = record { nodes = i + 1; leaves = leaves' }} m (record { going = y.going; marked = y.marked; counted = y.counted })
                 go pl (Held.cons a c d o) y = absurd (omega (arith, pl, zt))
 
           module _ (nb : body ≡ 0 → ⊥) (first : ℕ) (ef : first ≡ first_in b s) (lf : first < 65536) where

@@ -5,10 +5,12 @@
 // that were not visited are looked at.
 #![tactic(auto)]
 
+mod area;
 mod closing;
 mod words;
 
-ghost use Rattle.std.specs.Prelude.{◌≡◌, ◌+◌, ◌*◌, ◌<◌, ◌≤◌, length, set};
+ghost use Rattle.base.specs.Bytes.{get16};
+ghost use Rattle.std.specs.Prelude.{◌%◌, ◌≡◌, ◌+◌, ◌*◌, ◌<◌, ◌≤◌, length, set};
 ghost use Rattle.base.specs.Blocks.{zeros};
 ghost use Rattle.base.specs.Tells.{Tells};
 ghost use Rattle.grammar.specs.Rows.{symbol_space, grammar_in};
@@ -16,11 +18,13 @@ ghost use Rattle.trees.specs.Area.{slot_size, max_slots, area_size};
 ghost use Rattle.walks.specs.Words.{word_count, Worded};
 ghost use Rattle.walks.specs.Slots.{first_in, next_in};
 ghost use Rattle.walks.specs.Judging.{Looks, Hangs, Kin, Visited};
-ghost use Rattle.walks.specs.Stacked.{frame_size, marks_at, walk_size, Framed, marks_in};
+ghost use Rattle.walks.specs.Stacked.{frame_size, frame_parent, rest_at, marks_at, walk_size, Framed, marks_in};
 ghost use Rattle.walks.specs.Walking.{Wandered};
 ghost use Rattle.walks.specs.Closing.{Reads};
 
+use area::Area;
 use grammar::Head;
+use words::WORDS;
 
 // A frame's slot and parent, two bytes each, and its symbols, eight.
 const FRAME_SIZE: usize = 12;
@@ -35,83 +39,54 @@ pub const WALK_SIZE: usize = trees::NODE_SIZE * trees::MAX_SLOTS
     + trees::MAX_SLOTS
     + 1;
 
-// A used slot's mark as a two-byte number.
-const NODE_MARKS: usize = 0x444E;
+// The rows of a grammar with the words of its productions, and what its head says.
+#[derive(Drop)]
+struct Rules<'a> {
+    rows: &'a [u8],
+    words: [usize; WORDS],
+    head: Head,
+}
 
-// A node is a leaf, or its children must have the symbols of this body, or there is no such node.
+// Siblings that are due: the slot of the first of them, their parent's, and their symbols as one number.
+#[derive(Clone, Copy)]
+struct Siblings {
+    slot: usize,
+    parent: usize,
+    symbols: usize,
+}
+
+// A node is a leaf, or its children must have the symbols of this body.
 #[derive(Clone, Copy)]
 enum Kids {
     Leaf,
     Body(usize),
-    Unfit,
 }
 
-// The walk ended with so many nodes and leaves, or there is none.
+// So many nodes, and leaves among them, were found by a walk.
 #[derive(Clone, Copy)]
-enum Course {
-    Through(usize, usize),
-    Astray,
+struct Walk {
+    nodes: usize,
+    leaves: usize,
 }
 
-// Whether slot s has a used slot's mark and zeros, and the symbol x.
-fn looks(area: &[u8], s: usize, x: usize) -> bool
-    requires { slot_size * s + slot_size ≤ length area.now }
-    ensures { Tells (Looks area.now s x) result }
-{
-    let at = trees::SLOT_SIZE * s;
-    if base::two(area, at) != NODE_MARKS {
-        return false;
-    }
-    if base::two(area, at + trees::SPARE_PLACE) != 0 {
-        return false;
-    }
-    if base::two(area, at + trees::SYMBOL_PLACE) % 256 != x {
-        return false;
-    }
-    true
-}
-
-// Whether slot s is below the slot `par`, and has no first child where its children's symbols are those of the body 0. Parent and first child are one four-byte
-// number, so that one look tells both.
-fn hangs(area: &[u8], s: usize, par: usize, body: usize) -> bool
-    requires { (slot_size * s + slot_size ≤ length area.now) × (par < 65536) }
-    ensures { Tells (Hangs area.now s par body) result }
-{
-    let at = trees::SLOT_SIZE * s + trees::PARENT_PLACE;
-    if body == 0 {
-        if base::four(area, at) != par {
-            return false;
+impl<'a> Rules<'a> {
+    // The children of a node with symbol x, production p and tag g, or that there is no such node.
+    fn kin(&self, x: usize, p: usize, g: usize) -> Option<Kids>
+        requires { Worded self.now.rows.now self.now.head.count self.now.words × (x < 256) × (p < 256) }
+        ensures { Kin self.now.rows.now self.now.head.t self.now.head.count x p g result }
+    {
+        if p == 0 {
+            if x == 0 || self.head.t < x {
+                return None;
+            }
+            return Some(Kids::Leaf);
         }
-        return true;
-    }
-    if base::two(area, at) != par {
-        return false;
-    }
-    true
-}
-
-// The children of a node with symbol x, production p and tag g.
-fn kin(rows: &[u8], words: &[usize], t: usize, count: usize, x: usize, p: usize, g: usize) -> Kids
-    requires { (length words.now ≡ word_count) × Worded rows.now count words.now × (x < 256) × (p < 256) }
-    ensures { Kin rows.now t count x p g result }
-{
-    if p == 0 {
-        if x == 0 {
-            return Kids::Unfit;
+        let v = self.words[p];
+        if v % words::BASE != words::DIGIT + x || g != 0 {
+            return None;
         }
-        if t < x {
-            return Kids::Unfit;
-        }
-        return Kids::Leaf;
+        Some(Kids::Body(v / words::BASE))
     }
-    let v = words[p];
-    if v % words::BASE != words::DIGIT + x {
-        return Kids::Unfit;
-    }
-    if g != 0 {
-        return Kids::Unfit;
-    }
-    Kids::Body(v / words::BASE)
 }
 
 // Where the marks begin.
@@ -122,81 +97,52 @@ fn marks_at(slots: usize) -> usize
     trees::NODE_SIZE * slots + FRAME_SIZE * (slots + 1)
 }
 
-// Visits slot s, where x is expected below the slot `par`: writes it as node i and marks it. Its links are looked at last: what was written for a slot that is unfit is not read.
-fn visit(
-    area: &[u8],
-    slots: usize,
-    rows: &[u8],
-    words: &[usize],
-    t: usize,
-    count: usize,
-    s: usize,
-    par: usize,
-    x: usize,
-    w: &mut [u8],
-    i: usize,
-) -> Kids
-    requires { (slots ≤ max_slots) × (length area.now ≡ area_size slots) × (length words.now ≡ word_count) × Worded rows.now count words.now × (walk_size slots ≤ length w.old) × (i ≤ slots) × (par < 65536) }
-    ensures { Visited rows.now t count slots area.now s par x w.old i w.new result }
+// Visits the first of the siblings that are due: writes it as node i and marks it. Its links are looked at last: what was written for a slot that is unfit is not read.
+fn visit(area: Area, rules: &Rules, due: Siblings, w: &mut [u8], i: usize) -> Option<Kids>
+    requires { Worded rules.now.rows.now rules.now.head.count rules.now.words × (walk_size area.slots ≤ length w.old) × (i ≤ area.slots) × (due.parent < 65536) }
+    ensures { Visited rules.now.rows.now rules.now.head.t rules.now.head.count area.entry.slots area.entry.bytes.now due.slot due.parent (due.symbols % 64) w.old i w.new result }
 {
-    if slots < s {
-        return Kids::Unfit;
+    let s = due.slot;
+    if area.slots < s {
+        return None;
     }
-    let mark = marks_at(slots) + s;
-    if w[mark] != 0 {
-        return Kids::Unfit;
+    let mark = marks_at(area.slots) + s;
+    let x = due.symbols % words::DIGIT;
+    if w[mark] != 0 || !area.looks(s, x) {
+        return None;
     }
-    if looks(area, s, x) {
-        let at = trees::SLOT_SIZE * s;
-        let both = base::two(area, at + trees::SYMBOL_PLACE);
-        let y = both % 256;
-        let p = both / 256;
-        let g = base::four(area, at + trees::TAG_PLACE);
-        match kin(rows, words, t, count, x, p, g) {
-            Kids::Leaf => {
-                trees::put_node(w, i, s, y, 0, g);
-                w[mark] = 1;
-                if hangs(area, s, par, 0) {
-                    return Kids::Leaf;
-                }
-                return Kids::Unfit;
-            }
-            Kids::Body(body) => {
-                trees::put_node(w, i, s, y, p, 0);
-                w[mark] = 1;
-                if hangs(area, s, par, body) {
-                    return Kids::Body(body);
-                }
-                return Kids::Unfit;
-            }
-            Kids::Unfit => return Kids::Unfit,
-        }
-    }
-    Kids::Unfit
+    let at = trees::SLOT_SIZE * s;
+    let p = usize::from(area.bytes[at + trees::PRODUCTION_PLACE]);
+    let g = base::four(area.bytes, at + trees::TAG_PLACE);
+    let kids = rules.kin(x, p, g)?;
+    trees::put_node(w, i, s, x, p, g);
+    w[mark] = 1;
+    let body = match kids {
+        Kids::Leaf => 0,
+        Kids::Body(b) => b,
+    };
+    area.hangs(s, due.parent, body).then_some(kids)
 }
 
-fn put_frame(w: &mut [u8], at: usize, s: usize, par: usize, rest: usize)
-    requires { (at + frame_size ≤ length w.old) × (s < 65536) × (par < 65536) }
-    ensures { Framed w.old at s par rest w.new }
+// Writes a frame, and reads it.
+fn put_frame(w: &mut [u8], at: usize, due: Siblings)
+    requires { (at + frame_size ≤ length w.old) × (due.slot < 65536) × (due.parent < 65536) }
+    ensures { Framed w.old at due.slot due.parent due.symbols w.new }
 {
-    base::put_two(w, at, s);
-    base::put_two(w, at + FRAME_PARENT, par);
-    base::put_eight(w, at + FRAME_REST, rest);
+    base::put_two(w, at, due.slot);
+    base::put_two(w, at + FRAME_PARENT, due.parent);
+    base::put_eight(w, at + FRAME_REST, due.symbols);
 }
 
-// Of slot s: its first child's slot and its next sibling's.
-fn first_in(area: &[u8], s: usize) -> usize
-    requires { slot_size * s + slot_size ≤ length area.now }
-    ensures { (result ≡ first_in area.now s) × (result < 65536) }
+fn frame_at(w: &[u8], at: usize) -> Siblings
+    requires { at + frame_size ≤ length w.now }
+    ensures { (result.slot ≡ get16 w.now at) × (result.parent ≡ get16 w.now (at + frame_parent)) × (result.parent < 65536) × (result.symbols ≡ rest_at w.now at) }
 {
-    base::two(area, trees::SLOT_SIZE * s + trees::FIRST_PLACE)
-}
-
-fn next_in(area: &[u8], s: usize) -> usize
-    requires { slot_size * s + slot_size ≤ length area.now }
-    ensures { (result ≡ next_in area.now s) × (result < 65536) }
-{
-    base::two(area, trees::SLOT_SIZE * s + trees::NEXT_PLACE)
+    Siblings {
+        slot: base::two(w, at),
+        parent: base::two(w, at + FRAME_PARENT),
+        symbols: base::eight(w, at + FRAME_REST),
+    }
 }
 
 // Marks no slot but slot 0, which is none.
@@ -205,94 +151,61 @@ fn fresh(w: &mut [u8], slots: usize)
     ensures { marks_in slots w.new ≡ set (zeros (slots + 1)) 0 1 }
 {
     let from = marks_at(slots);
-    base::zero(&mut w[from..from + slots + 1]);
+    w[from..from + slots + 1].fill(0);
     w[from] = 1;
 }
 
 // Walks the area from its root, and writes the nodes that it visits. The symbols that are due at slot s and at its siblings behind it are one number.
-fn wander(
-    area: &[u8],
-    slots: usize,
-    rows: &[u8],
-    words: &[usize],
-    head: Head,
-    w: &mut [u8],
-) -> Course
-    requires { (slots ≤ max_slots) × (length area.now ≡ area_size slots) × (length words.now ≡ word_count) × Worded rows.now head.count words.now × (walk_size slots ≤ length w.old) × (head.start < symbol_space) }
-    ensures { Wandered rows.now head slots area.now w.new result }
+fn wander(area: Area, rules: &Rules, w: &mut [u8]) -> Option<Walk>
+    requires { Worded rules.now.rows.now rules.now.head.count rules.now.words × (walk_size area.slots ≤ length w.old) × (rules.now.head.start < symbol_space) }
+    ensures { Wandered rules.now.rows.now rules.now.head area.entry.slots area.entry.bytes.now w.new result }
 {
-    fresh(w, slots);
-    let bottom = trees::NODE_SIZE * slots;
+    fresh(w, area.slots);
+    let bottom = trees::NODE_SIZE * area.slots;
     let mut top = bottom;
-    let mut i: usize = 0;
-    let mut leaves: usize = 0;
-    let mut s = base::two(area, trees::ROOT_PLACE);
-    let mut par: usize = 0;
-    let mut due = words::DIGIT + head.start;
+    let mut nodes = 0;
+    let mut leaves = 0;
+    let mut due = Siblings {
+        slot: base::two(area.bytes, trees::ROOT_PLACE),
+        parent: 0,
+        symbols: words::DIGIT + rules.head.start,
+    };
     loop {
-        let body = match visit(
-            area,
-            slots,
-            rows,
-            words,
-            head.t,
-            head.count,
-            s,
-            par,
-            due % words::DIGIT,
-            w,
-            i,
-        ) {
+        let body = match visit(area, rules, due, w, nodes)? {
             Kids::Leaf => {
                 leaves += 1;
                 0
             }
             Kids::Body(b) => b,
-            Kids::Unfit => return Course::Astray,
         };
-        i += 1;
-        due = due / words::BASE;
-        if body == 0 {
-            if due == 0 {
-                if next_in(area, s) != 0 {
-                    return Course::Astray;
-                }
-                if top == bottom {
-                    return Course::Through(i, leaves);
-                }
-                top -= FRAME_SIZE;
-                s = base::two(w, top);
-                par = base::two(w, top + FRAME_PARENT);
-                due = base::eight(w, top + FRAME_REST);
-                continue;
-            }
-            s = next_in(area, s);
-            continue;
+        nodes += 1;
+        let behind = Siblings {
+            slot: area.next_in(due.slot),
+            parent: due.parent,
+            symbols: due.symbols / words::BASE,
+        };
+        if behind.symbols == 0 && behind.slot != 0 {
+            return None;
         }
-        if due == 0 {
-            if next_in(area, s) != 0 {
-                return Course::Astray;
+        due = if body != 0 {
+            if behind.symbols != 0 {
+                put_frame(w, top, behind);
+                top += FRAME_SIZE;
             }
-            par = s;
-            s = first_in(area, s);
-            due = body;
-            continue;
-        }
-        put_frame(w, top, next_in(area, s), par, due);
-        top += FRAME_SIZE;
-        par = s;
-        s = first_in(area, s);
-        due = body;
+            Siblings {
+                slot: area.first_in(due.slot),
+                parent: due.slot,
+                symbols: body,
+            }
+        } else if behind.symbols != 0 {
+            behind
+        } else if top == bottom {
+            return Some(Walk { nodes, leaves });
+        } else {
+            top -= FRAME_SIZE;
+            frame_at(w, top)
+        };
     }
-}
-
-// The same, with the productions' words made first.
-fn walk(area: &[u8], slots: usize, rows: &[u8], head: Head, w: &mut [u8]) -> Course
-    requires { (slots ≤ max_slots) × (length area.now ≡ area_size slots) × (walk_size slots ≤ length w.old) × (head.start < symbol_space) }
-    ensures { Wandered rows.now head slots area.now w.new result }
-{
-    let words = words::words_of(rows, head.count);
-    wander(area, slots, rows, &words, head, w)
 }
 
 // Walks an area of whatever bytes back into the list of its nodes, at the beginning of `work`, and counts them, or finds that it is no valid tree of the grammar in the rows.
@@ -306,14 +219,16 @@ pub fn read_tree(
     requires { (1 ≤ slots) × (slots ≤ max_slots) × (length area.now ≡ area_size slots) × (walk_size slots ≤ length work.old) × (head.start < symbol_space) }
     ensures { Reads (grammar_in rows.now head) slots area.now work.new result }
 {
-    let Course::Through(nodes, leaves) = walk(area, slots, rows, head, work) else {
-        return None;
+    let area = Area { bytes: area, slots };
+    let rules = Rules {
+        rows,
+        words: words::words_of(rows, head.count),
+        head,
     };
-    if closing::heads(area, nodes, leaves) {
-        let from = marks_at(slots);
-        if closing::all_clear(area, &work[from..from + slots + 1], slots) {
-            return Some(nodes);
-        }
+    let found = wander(area, &rules, work)?;
+    if !closing::heads(area.bytes, found.nodes, found.leaves) {
+        return None;
     }
-    None
+    let from = marks_at(slots);
+    closing::all_clear(area.bytes, &work[from..from + slots + 1], slots).then_some(found.nodes)
 }

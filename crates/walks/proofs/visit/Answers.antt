@@ -1,37 +1,32 @@
-use Rattle.std.proofs.Common.{refl}
-use Rattle.walks.specs.Judging.{Visited, looks_low, visited_marked, visited_unlike, visited_unfit, visited_leaf, visited_body, stray_leaf, stray_body}
-use borrow.Author.Rules.{rules}
+use Rattle.std.proofs.Common.{rules, refl, ap, sym, ◌∙◌, Some}
+use Rattle.walks.specs.Judging.{Visited, taken_leaf, taken_body, visited_marked, visited_unlike, visited_unfit, visited_hung}
 use Rattle.walks.proofs.visit.Goals as goal
+use Rattle.walks.proofs.visit.Goals.{then-w-mark-ne0-via-then-w-mark-ne0, then-w-mark-ne0-via-else-w-mark-ne0+then-not-looks, in-Leaf, in-Body}
 
-pub returns-then-slots-s : goal.returns-then-slots-s
-returns-then-slots-s c = Visited.over (search rules)
+pub returns-then-area-s : goal.returns-then-area-s
+returns-then-area-s c = Visited.over (search rules)
 
 pub returns-then-w-mark-ne0 : goal.returns-then-w-mark-ne0
-returns-then-w-mark-ne0 c = visited_marked _ _ _ _ _ _ _ _ _ _ _ c.marks_at.ensures c.if-slots-s.false c.if-w-mark-ne0.true
+returns-then-w-mark-ne0 c =
+    elim c.then-w-mark-ne0.branch [
+      | then-w-mark-ne0-via-then-w-mark-ne0 w ↦ visited_marked _ _ _ _ _ _ _ _ _ _ _ c.marks_at.ensures c.if-area-s.false w.if-w-mark-ne0.true
+      | then-w-mark-ne0-via-else-w-mark-ne0+then-not-looks w ↦ visited_unlike _ _ _ _ _ _ _ _ _ _ _ w.looks.ensures (search rules)
+    ]
 
-pub kin-requires : goal.kin-requires
-kin-requires c = (c.requires.2, c.requires.3, looks_low (record { small = λ i. (c.shared_slice_known-1.given i).fits }) (c.looks.ensures.yes c.if-looks.true), search rules)
-
-pub put_node-requires : goal.put_node-requires
-put_node-requires c = let h = looks_low (record { small = λ i. (c.shared_slice_known-1.given i).fits }) (c.looks.ensures.yes c.if-looks.true) in search rules
-
-pub returns-then-hangs : goal.returns-then-hangs
-returns-then-hangs c = visited_leaf _ _ _ _ _ _ _ _ _ _ _ c.marks_at.ensures c.if-slots-s.false _ _ (record { small = λ i. (c.shared_slice_known-1.given i).fits }) c.two-both.ensures.0 c.four-g.ensures.0 _ c.kin.ensures c.if-w-mark-ne0.false _ c.looks.ensures c.if-looks.true c.four-g.ensures.1 _ c.if-hangs.true _ _ refl c.in-Leaf.is c.hangs.ensures c.put_node.ensures
-
-pub returns-in-Leaf : goal.returns-in-Leaf
-returns-in-Leaf c = stray_leaf _ _ _ _ _ _ _ _ _ _ _ c.marks_at.ensures c.if-slots-s.false _ _ (record { small = λ i. (c.shared_slice_known-1.given i).fits }) c.two-both.ensures.0 c.four-g.ensures.0 _ c.kin.ensures _ _ c.in-Leaf.is c.hangs.ensures c.if-hangs.false
-
-pub put_node-requires-in-Body : goal.put_node-requires-in-Body
-put_node-requires-in-Body c = let h = looks_low (record { small = λ i. (c.shared_slice_known-1.given i).fits }) (c.looks.ensures.yes c.if-looks.true) in search rules
-
-pub returns-then-hangs-2 : goal.returns-then-hangs-2
-returns-then-hangs-2 c = visited_body _ _ _ _ _ _ _ _ _ _ _ c.marks_at.ensures c.if-slots-s.false _ _ (record { small = λ i. (c.shared_slice_known-1.given i).fits }) c.two-both.ensures.0 c.four-g.ensures.0 _ c.kin.ensures c.if-w-mark-ne0.false _ c.looks.ensures c.if-looks.true c.four-g.ensures.1 _ c.if-hangs-2.true _ _ refl _ c.in-Body.is c.hangs-in-Body.ensures c.put_node-in-Body.ensures
-
-pub returns-in-Body : goal.returns-in-Body
-returns-in-Body c = stray_body _ _ _ _ _ _ _ _ _ _ _ c.marks_at.ensures c.if-slots-s.false _ _ (record { small = λ i. (c.shared_slice_known-1.given i).fits }) c.two-both.ensures.0 c.four-g.ensures.0 _ c.kin.ensures _ _ _ c.in-Body.is c.hangs-in-Body.ensures c.if-hangs-2.false
-
-pub returns-in-Unfit : goal.returns-in-Unfit
-returns-in-Unfit c = visited_unfit _ _ _ _ _ _ _ _ _ _ _ c.marks_at.ensures c.if-slots-s.false _ _ (record { small = λ i. (c.shared_slice_known-1.given i).fits }) c.two-both.ensures.0 c.four-g.ensures.0 _ c.kin.ensures c.in-Unfit.is
+pub returns-in_err-kids : goal.returns-in_err-kids
+returns-in_err-kids c = rw c.from_residual.ensures (visited_unfit _ _ _ _ _ _ _ _ _ _ _ c.marks_at.ensures c.if-area-s.false _ c.four-g.ensures.0 _ (rw c.from-p.ensures at c.kin.ensures) c.in_err-kids.was)
 
 pub returns : goal.returns
-returns c = visited_unlike _ _ _ _ _ _ _ _ _ _ _ c.looks.ensures c.if-looks.false
+returns c =
+    let k = rw c.from-p.ensures at c.kin.ensures in
+    let f = c.looks.ensures.yes (search rules) in
+    let put = rw c.from-p.ensures at c.put_node.ensures in
+    rw c.then_some.ensures
+    (elim c.match-kids.branch [
+      | in-Leaf w ↦
+          visited_hung _ _ _ _ _ _ _ _ _ _ _ c.marks_at.ensures c.if-area-s.false _ c.four-g.ensures.0 _ k c.if-w-mark-ne0.false f c.four-g.ensures.1 _ (c.in_ok-kids.was ∙ ap Some (sym w.kids-is)) _ 1
+          (taken_leaf _ _ _ (ap Some (w.kids-is ∙ w.in-Leaf.is)) w.body-is refl) _ c.hangs.ensures _ _ put refl
+      | in-Body w ↦
+          visited_hung _ _ _ _ _ _ _ _ _ _ _ c.marks_at.ensures c.if-area-s.false _ c.four-g.ensures.0 _ k c.if-w-mark-ne0.false f c.four-g.ensures.1 _ (c.in_ok-kids.was ∙ ap Some (w.in-Body.is ∙ sym w.kids-is)) _ 0
+          (taken_body _ _ _ _ (ap Some w.kids-is) w.body-is refl) _ c.hangs.ensures _ _ put refl
+    ])
