@@ -3,14 +3,13 @@ use Rattle.std.specs.Prelude.{ℕ, ◌+◌, ◌*◌, ◌/◌, ◌%◌, ◌<◌, 
 use Rattle.std.proofs.Common.{inl, inr, arith}
 use Rattle.base.specs.Bytes.{byte_at, Bytes}
 use Rattle.grammar.specs.Grammar.{Grammar, TerminalOf}
-use Rattle.grammar.specs.declared.Head.{Head}
 use Rattle.plain.specs.Plain.{Verdict, syntax, out_of_room, Parses}
 use Rattle.plain.specs.Tokens.{token_size, tokens_from, Sentence, Kinds, BadToken, sentence_of, bad_token}
-use Rattle.plain.specs.Machine.{Ground, At, Done, Going}
+use Rattle.plain.specs.Machine.{At, Done}
 use Rattle.plain.specs.declared.BadToken as bad
 use Rattle.plain.specs.declared.ParseError.{ParseError}
 use Rattle.plain.specs.declared.ParseError.TheVariants.{Syntax, NoRoom}
-use Rattle.plain.specs.declared.Turn.{Turn}
+use Rattle.plain.specs.declared.Place.{Place}
 
 -- m tokens of the kinds 1..t
 pub record Counted (t : ℕ) (b : List ℕ) (m : ℕ) : Type 0 where
@@ -32,10 +31,14 @@ abbrev pub Ran : Grammar → ℕ → List ℕ → ℕ → List ℕ → Result �
 Ran G S b m w (Ok o) = Done G S b m o w
 Ran G S b m w (Err e) = Parses G S (tokens_from b m 0) (verdict_of e)
 
--- after one more node
-abbrev pub Turned : Grammar → ℕ → List ℕ → ℕ → List ℕ → List ℕ → ℕ → Result Turn ParseError → Type 0
-Turned G S b m w w' o (Ok r) = Going G S b m w w' (o + 1) r.top r.token
-Turned G S b m w w' o (Err e) = Parses G S (tokens_from b m 0) (verdict_of e)
+-- a parse goes on, with the nodes in n and the stack in s
+abbrev pub AtPlace : Grammar → ℕ → List ℕ → ℕ → List ℕ → List ℕ → Place → Type 0
+AtPlace G S b m n s q = At G S b m n s q.top q.nodes q.token
+
+-- after one node more than o
+abbrev pub Turned : Grammar → ℕ → List ℕ → ℕ → List ℕ → List ℕ → ℕ → Result Place ParseError → Type 0
+Turned G S b m n s o (Ok q) = AtPlace G S b m n s q × (q.nodes ≡ o + 1)
+Turned G S b m n s o (Err e) = Parses G S (tokens_from b m 0) (verdict_of e)
 
 -- ---- the ways through the tokens
 
@@ -50,12 +53,3 @@ module _ {t : ℕ} {b : List ℕ} {i : ℕ} (h : Kinds t b i) (f : Bytes b) wher
   told_good q z =
       let l : length b ≡ token_size * i = omega arith in
       rw (← q) (record { long = l; kinds = h; sentence = sentence_of t b i f l h })
-
--- ---- over the same bytes
-
-module _ {b b' : List ℕ} (e : b' ≡ b) where
-  pub ground_same : {rows : List ℕ} {head : Head} {table : List ℕ} {m : ℕ} → Ground rows head table b m → Ground rows head table b' m
-  ground_same h = rw e h
-
-  pub at_same : {G : Grammar} {S m : ℕ} {w : List ℕ} {p o k : ℕ} → At G S b m w p o k → At G S b' m w p o k
-  at_same h = rw e h
