@@ -1,15 +1,14 @@
 -- What the functions of this crate promise, for each case of their answers.
-use Rattle.std.specs.Prelude.{ℕ, ◌+◌, ◌*◌, ◌/◌, ◌%◌, ◌<◌, ◌≡◌, Result, Ok, Err, List, length}
+use Rattle.std.specs.Prelude.{ℕ, ◌*◌, ◌/◌, ◌%◌, ◌<◌, ◌≡◌, Result, Ok, Err, List, length}
 use Rattle.std.proofs.Common.{inl, inr, arith}
 use Rattle.base.specs.Bytes.{byte_at, Bytes}
 use Rattle.grammar.specs.Grammar.{Grammar, TerminalOf}
 use Rattle.plain.specs.Plain.{Verdict, syntax, out_of_room, Parses}
 use Rattle.plain.specs.Tokens.{token_size, tokens_from, Sentence, Kinds, BadToken, sentence_of, bad_token}
-use Rattle.plain.specs.Machine.{At, Done}
+use Rattle.plain.specs.Machine.{Done}
 use Rattle.plain.specs.declared.BadToken as bad
 use Rattle.plain.specs.declared.ParseError.{ParseError}
 use Rattle.plain.specs.declared.ParseError.TheVariants.{Syntax, NoRoom}
-use Rattle.plain.specs.declared.Place.{Place}
 
 -- m tokens of the kinds 1..t
 pub record Counted (t : ℕ) (b : List ℕ) (m : ℕ) : Type 0 where
@@ -30,15 +29,6 @@ verdict_of NoRoom = out_of_room
 abbrev pub Ran : Grammar → ℕ → List ℕ → ℕ → List ℕ → Result ℕ ParseError → Type 0
 Ran G S b m w (Ok o) = Done G S b m o w
 Ran G S b m w (Err e) = Parses G S (tokens_from b m 0) (verdict_of e)
-
--- a parse goes on, with the nodes in n and the stack in s
-abbrev pub AtPlace : Grammar → ℕ → List ℕ → ℕ → List ℕ → List ℕ → Place → Type 0
-AtPlace G S b m n s q = At G S b m n s q.top q.nodes q.token
-
--- after one node more than o
-abbrev pub Turned : Grammar → ℕ → List ℕ → ℕ → List ℕ → List ℕ → ℕ → Result Place ParseError → Type 0
-Turned G S b m n s o (Ok q) = AtPlace G S b m n s q × (q.nodes ≡ o + 1)
-Turned G S b m n s o (Err e) = Parses G S (tokens_from b m 0) (verdict_of e)
 
 -- ---- the ways through the tokens
 

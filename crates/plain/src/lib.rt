@@ -1,16 +1,15 @@
 // The plain parse: one loop over a stack in the lent work area, which writes the node list. Each turn takes one symbol off the stack and writes one node.
 #![tactic(auto)]
 
-ghost use Rattle.std.specs.Prelude.{◌≡◌, ◌+◌, ◌*◌, ◌/◌, ◌<◌, ◌≤◌, length};
+ghost use Rattle.std.specs.Prelude.{◌≡◌, ◌+◌, ◌*◌, ◌<◌, ◌≤◌, length};
 ghost use Rattle.base.specs.Filled.{Filled};
 ghost use Rattle.grammar.specs.Limits.{max_body, max_nonterminals};
 ghost use Rattle.grammar.specs.Rows.{symbol_at, grammar_in};
 ghost use Rattle.trees.specs.Area.{max_slots};
 ghost use Rattle.trees.specs.Coded.{node_size};
-ghost use Rattle.plain.specs.Tokens.{token_size};
 ghost use Rattle.plain.specs.Machine.{Lit, Ground, Begun};
 ghost use Rattle.plain.specs.Text.{text_in, parse_size};
-ghost use Rattle.plain.specs.Outcome.{Told, Ran, AtPlace, Turned};
+ghost use Rattle.plain.specs.Outcome.{Told, Ran};
 
 use grammar::Head;
 
@@ -101,14 +100,16 @@ fn predicted(tables: &[u8], row: usize) -> u32
 }
 
 impl Lent<'_, '_> {
+    ghost use Rattle.plain.specs.Lending.{Grounded, AtPlace, Turned, Ended};
+
     // One symbol is taken off the stack, and one node is written.
     fn step(&self, nodes: &mut [u8], stack: &mut [u8], at: Place) -> Result<Place, ParseError>
-        requires ground { Ground self.now.rows.now self.now.head self.now.tables.now self.now.text.now (length self.now.text.now / token_size) }
+        requires ground { Grounded self.now }
         requires room { node_size * self.now.slots ≤ length nodes.old }
         requires space { self.now.slots ≤ length stack.old }
         requires more { at.top < length stack.old }
-        requires on { AtPlace (grammar_in self.now.rows.now self.now.head) self.now.slots self.now.text.now (length self.now.text.now / token_size) nodes.old stack.old at }
-        ensures { Turned (grammar_in self.now.rows.now self.now.head) self.now.slots self.now.text.now (length self.now.text.now / token_size) nodes.new stack.new at.nodes result }
+        requires on { AtPlace self.now nodes.old stack.old at }
+        ensures { Turned self.now nodes.new stack.new at.nodes result }
     {
         let x = usize::from(stack[at.top]);
         let a = base::byte_at(self.text, TOKEN_SIZE * at.token);
@@ -145,11 +146,11 @@ impl Lent<'_, '_> {
 
     // From the start symbol on, until the stack is empty; how many nodes are written.
     fn run(&self, nodes: &mut [u8], stack: &mut [u8]) -> Result<usize, ParseError>
-        requires ground { Ground self.now.rows.now self.now.head self.now.tables.now self.now.text.now (length self.now.text.now / token_size) }
+        requires ground { Grounded self.now }
         requires some { 1 ≤ self.now.slots }
         requires room { node_size * self.now.slots ≤ length nodes.old }
         requires space { self.now.slots ≤ length stack.old }
-        ensures { Ran (grammar_in self.now.rows.now self.now.head) self.now.slots self.now.text.now (length self.now.text.now / token_size) nodes.new result }
+        ensures { Ended self.now nodes.new result }
     {
         let mut at = Place {
             nodes: 0,
