@@ -20,11 +20,10 @@ unfolding text_in copied
 text_copied S m w src room l =
     let at : ℕ = node_size * S in
     let q : min (length src) (length w - at) ≡ length src = omega (arith, l, room) in
-    let z : at + token_size * m - at ≡ length src = omega (arith, l) in
     let d : drop at (take at w ++ src ++ drop (at + length src) w) ≡ src ++ drop (at + length src) w =
     ap (drop at) (append_assoc (take at w) src (drop (at + length src) w)) ∙ drop_at (take at w) (src ++ drop (at + length src) w) at (length-take-le at w (omega (arith, room)))
     in
-    rw (q, z, take-length src, d) (take_at src (drop (at + length src) w) (length src) refl)
+    rw (q, ← l, take-length src, d) (take_at src (drop (at + length src) w) (length src) refl)
 
 -- the tokens of bytes that begin alike
 tokens_front : (b b' : List ℕ) (k m r i : ℕ) → r ≡ min m k → ((j : ℕ) → j < token_size * (i + r) → byte_at b' j ≡ byte_at b j) → tokens_from b' r i ≡ take k (tokens_from b m i)

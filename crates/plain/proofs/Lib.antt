@@ -2,3 +2,5 @@
 pub mod Exactly
 pub mod Viable
 pub mod Ends
+-- Laws: a parse of the parts of a work area.
+pub mod Joined

@@ -12,3 +12,4 @@ pub mod Parsing
 pub mod Machine
 pub mod Text
 pub mod Outcome
+pub mod Lending

@@ -29,8 +29,8 @@ use Rattle.grammar.specs.declared.Head.{Head}
 use Rattle.predictions.specs.Verdict.{predictor_small}
 use Rattle.tables.specs.Tables.{Prediction, some, none, Tables}
 use Rattle.trees.specs.Nodes.{Node, Lists, leaves_of}
-use Rattle.trees.specs.Coded.{node_size, nodes_from, length_nodes}
-use Rattle.trees.specs.Listing.{node_of, Put, nodes_kept, put_last}
+use Rattle.trees.specs.Coded.{nodes_from, length_nodes}
+use Rattle.trees.specs.Listing.{node_of, Put, put_last}
 use Rattle.plain.specs.Plain.{ahead, accepted, syntax, out_of_room, Expects, prediction, itself, end, crowded, stuck, Parses}
 use Rattle.plain.specs.One.{no_rule}
 use Rattle.plain.specs.Tokens.{token_size, token_at, tokens_from, Kinds}
@@ -96,10 +96,10 @@ lit_more table R c e e' v q f h =
 pub lit_all : (table : List ℕ) (R c e : ℕ) → columns ≤ c → c ≤ columns → LitTo table R c e → Lit table R e
 lit_all table R c e l m h = let q : c ≡ columns = omega arith in let k = rw q at h in record { small = k.small; all = k.all; only = k.only }
 
--- w' is w with the symbol x at its end
-pub record Begun (w w' : List ℕ) (p x : ℕ) : Type 0 where
-  pub is : w' ≡ set w p x
-  pub long : p + 1 ≡ length w
+-- s' is s with the symbol x at its end
+pub record Begun (s s' : List ℕ) (p x : ℕ) : Type 0 where
+  pub is : s' ≡ set s p x
+  pub long : p + 1 ≡ length s
 
 -- what stands while a parse runs: the grammar in the rows passes replies 1 to 3, the tables are its tables, and the bytes b are m good tokens
 pub record Ground (rows : List ℕ) (head : Head) (table b : List ℕ) (m : ℕ) : Type 0 where
@@ -108,20 +108,15 @@ pub record Ground (rows : List ℕ) (head : Head) (table b : List ℕ) (m : ℕ)
   pub long : length b ≡ token_size * m
   pub kinds : Kinds head.t b m
 
--- o nodes are written, k tokens matched, and the symbols from p on are left
-pub record At (G : Grammar) (S : ℕ) (b : List ℕ) (m : ℕ) (w : List ℕ) (p o k : ℕ) : Type 0 where
-  pub parsing : Parsing G S (tokens_from b m 0) (drop p w) (tokens_from b (m - k) k) (o + (length w - p)) k (nodes_from w o 0)
-  pub symbols : Each (SymbolOf G.t G.n) (drop p w)
+-- o nodes are written in n, k tokens matched, and the symbols from p on of s are left
+pub record At (G : Grammar) (S : ℕ) (b : List ℕ) (m : ℕ) (n s : List ℕ) (p o k : ℕ) : Type 0 where
+  pub parsing : Parsing G S (tokens_from b m 0) (drop p s) (tokens_from b (m - k) k) (o + (length s - p)) k (nodes_from n o 0)
+  pub symbols : Each (SymbolOf G.t G.n) (drop p s)
   -- "Parse puts nodes in slots 1, 2, .. in preorder"
-  pub numbered : Numbered 1 (nodes_from w o 0)
-
--- the parse goes on
-pub record Going (G : Grammar) (S : ℕ) (b : List ℕ) (m : ℕ) (w w' : List ℕ) (o p k : ℕ) : Type 0 where
-  pub long : length w' ≡ length w
-  pub low : p ≤ length w'
-  pub room : o + (length w' - p) ≤ S
+  pub numbered : Numbered 1 (nodes_from n o 0)
+  pub low : p ≤ length s
+  pub room : o + (length s - p) ≤ S
   pub matched : k ≤ m
-  pub at : At G S b m w' p o k
 
 -- an accepted sentence: o nodes are its derivation, in preorder, in slots 1, 2, ..
 pub record Done (G : Grammar) (S : ℕ) (b : List ℕ) (m o : ℕ) (w : List ℕ) : Type 0 where
@@ -135,26 +130,25 @@ length_symbols rows j zero i = refl
 length_symbols rows j (suc k) i = ap suc (length_symbols rows j k (i + 1))
 
 -- the same bytes from p on
-drop_kept : (w w' : List ℕ) (p q : ℕ) → length w' ≡ length w → q ≤ p → ((j : ℕ) → q ≤ j → byte_at w' j ≡ byte_at w j) → drop p w' ≡ drop p w
-drop_kept w w' p q l m h =
-    ext_get_or 0 (drop p w') (drop p w) (length-drop p w' ∙ ap (λ (x : ℕ). x - p) l ∙ sym (length-drop p w))
-    (λ i x. get_or-drop p w' i 0 ∙ h (p + i) (omega arith) ∙ sym (get_or-drop p w i 0))
+drop_kept : (s s' : List ℕ) (p : ℕ) → length s' ≡ length s → ((j : ℕ) → p ≤ j → byte_at s' j ≡ byte_at s j) → drop p s' ≡ drop p s
+drop_kept s s' p l h =
+    ext_get_or 0 (drop p s') (drop p s) (length-drop p s' ∙ ap (λ (x : ℕ). x - p) l ∙ sym (length-drop p s))
+    (λ i x. get_or-drop p s' i 0 ∙ h (p + i) (omega arith) ∙ sym (get_or-drop p s i 0))
 
 -- a body in place of the symbol on top
-pushed : (rows w w₁ w' : List ℕ) (j d r q : ℕ) → d + length_at rows j ≡ r → q ≤ d → r ≤ length w → Filled (symbol_at rows j) d (length_at rows j) w w₁
-    → length w' ≡ length w₁ → ((i : ℕ) → q ≤ i → byte_at w' i ≡ byte_at w₁ i) → drop d w' ≡ body_at rows j ++ drop r w
-pushed rows w w₁ w' j d r q e l m u lw h =
-    let z : d + 0 ≡ d = omega arith in drop_kept w₁ w' d q lw l h ∙ rw z at (go (length_at rows j) 0 (omega arith))
+pushed : (rows s s' : List ℕ) (j d r : ℕ) → d + length_at rows j ≡ r → r ≤ length s → Filled (symbol_at rows j) d (length_at rows j) s s' → drop d s' ≡ body_at rows j ++ drop r s
+pushed rows s s' j d r e m u =
+    let z : d + 0 ≡ d = omega arith in rw z at (go (length_at rows j) 0 (omega arith))
   where
-    go : (k i : ℕ) → i + k ≡ length_at rows j → drop (d + i) w₁ ≡ symbols_from rows j k i ++ drop r w
+    go : (k i : ℕ) → i + k ≡ length_at rows j → drop (d + i) s' ≡ symbols_from rows j k i ++ drop r s
     go zero i x =
         let z : d + i ≡ r = omega arith in
-        rw z (drop_kept w w₁ r r u.long (omega arith) (λ i y. u.behind i (omega arith)))
+        rw z (drop_kept s s' r u.long (λ i y. u.behind i (omega arith)))
     go (suc k) i x =
         let z : suc (d + i) ≡ d + (i + 1) = omega arith in
-        rw (z, u.inside i (omega arith), go k (i + 1) (omega arith)) at (drop-cons w₁ (d + i) 0 (omega (arith, u.long)))
+        rw (z, u.inside i (omega arith), go k (i + 1) (omega arith)) at (drop-cons s' (d + i) 0 (omega (arith, u.long)))
 
-module _ (rows : List ℕ) (head : Head) (table b : List ℕ) (m : ℕ) (g : Ground rows head table b m) where
+module _ {rows : List ℕ} {head : Head} {table b : List ℕ} {m : ℕ} (g : Ground rows head table b m) where
   abbrev G : Grammar
   G = grammar_in rows head
 
@@ -188,14 +182,14 @@ module _ (rows : List ℕ) (head : Head) (table b : List ℕ) (m : ℕ) (g : Gro
   small_ahead : {M c p : ℕ} → Predicts G M c p → c < columns
   small_ahead x = predictor_small g.prepared.formed.head.terminals.1 x
 
-  module _ (S : ℕ) where
-    pub at_start : (w w' : List ℕ) (p : ℕ) → Begun w w' p head.start → At G S b m w' p 0 0
+  module _ {S : ℕ} where
+    pub at_start : {s s' : List ℕ} {p : ℕ} (n : List ℕ) → 1 ≤ S → Begun s s' p head.start → At G S b m n s' p 0 0
     unfolding grammar_in
-    at_start w w' p u =
-        let l : p + 1 ≡ length w' = u.long ∙ sym (ap length u.is ∙ length-set w p head.start) in
-        let x : byte_at w' p ≡ head.start = ap (λ (v : List ℕ). byte_at v p) u.is ∙ get_or-set_same w p head.start 0 (omega (arith, u.long)) in
-        let e : drop p w' ≡ head.start ∷ [] = drop-cons w' p 0 (omega arith) ∙ rw (x, drop_of_length-le w' {i = suc p} (omega arith)) in
-        let q : 0 + (length w' - p) ≡ 1 = omega arith in
+    at_start {s} {s'} {p} n r u =
+        let l : p + 1 ≡ length s' = u.long ∙ sym (ap length u.is ∙ length-set s p head.start) in
+        let x : byte_at s' p ≡ head.start = ap (λ (v : List ℕ). byte_at v p) u.is ∙ get_or-set_same s p head.start 0 (omega (arith, u.long)) in
+        let e : drop p s' ≡ head.start ∷ [] = drop-cons s' p 0 (omega arith) ∙ rw (x, drop_of_length-le s' {i = suc p} (omega arith)) in
+        let q : 0 + (length s' - p) ≡ 1 = omega arith in
         let z : m - 0 ≡ m = omega arith in
         let x = g.prepared.formed.head.start in
         let y : SymbolOf head.t head.n head.start = (omega (arith, x.0), x.1) in
@@ -203,12 +197,14 @@ module _ (rows : List ℕ) (head : Head) (table b : List ℕ) (m : ℕ) (g : Gro
           parsing = rw (e, q, z) parsing_start;
           symbols = rw e (Each.cons y Each.nil);
           numbered = Numbered.nil;
+          low = omega arith;
+          room = omega arith;
+          matched = omega arith;
         }
 
-    module _ (w : List ℕ) (p o k : ℕ) (lp : p < length w) (room : o + (length w - p) ≤ S) (long : node_size * S + S ≤ length w) (lk : k ≤ m) (h : At G S b m w p o k)
-        (M a : ℕ) (eM : M ≡ byte_at w p) (ea : a ≡ byte_at b (token_size * k)) where
-      opened : drop p w ≡ M ∷ drop (p + 1) w
-      opened = let q : suc p ≡ p + 1 = omega arith in rw (q, ← eM) at (drop-cons w p 0 lp)
+    module _ {n s : List ℕ} {p o k : ℕ} (lp : p < length s) (h : At G S b m n s p o k) {M a : ℕ} (eM : M ≡ byte_at s p) (ea : a ≡ byte_at b (token_size * k)) where
+      opened : drop p s ≡ M ∷ drop (p + 1) s
+      opened = let q : suc p ≡ p + 1 = omega arith in rw (q, ← eM) at (drop-cons s p 0 lp)
 
       top_symbol : SymbolOf head.t head.n M
       unfolding grammar_in
@@ -217,17 +213,17 @@ module _ (rows : List ℕ) (head : Head) (table b : List ℕ) (m : ℕ) (g : Gro
           go : {x : ℕ} {xs : List ℕ} → Each (SymbolOf head.t head.n) (x ∷ xs) → SymbolOf head.t head.n x
           go (Each.cons y ys) = y
 
-      others : Each (SymbolOf G.t G.n) (drop (p + 1) w)
+      others : Each (SymbolOf G.t G.n) (drop (p + 1) s)
       others = go (rw opened at h.symbols)
         where
           go : {x : ℕ} {xs : List ℕ} → Each (SymbolOf G.t G.n) (x ∷ xs) → Each (SymbolOf G.t G.n) xs
           go (Each.cons y ys) = ys
 
-      here : Parsing G S (tokens_from b m 0) (M ∷ drop (p + 1) w) (tokens_from b (m - k) k) (o + (length w - p)) k (nodes_from w o 0)
+      here : Parsing G S (tokens_from b m 0) (M ∷ drop (p + 1) s) (tokens_from b (m - k) k) (o + (length s - p)) k (nodes_from n o 0)
       here = rw opened at h.parsing
 
       seen : a ≡ ahead (tokens_from b (m - k) k)
-      seen = ea ∙ ahead_at k lk
+      seen = ea ∙ ahead_at k h.matched
 
       -- ---- a terminal on top
 
@@ -241,29 +237,25 @@ module _ (rows : List ℕ) (head : Head) (table b : List ℕ) (m : ℕ) (g : Gro
         no_predicted (by_follow r f v) = no_rule g.prepared terminal r
 
         -- it is the next token
-        pub at_leaf : M ≡ a → (w' : List ℕ) (tag : ℕ) → tag ≡ get32 b (token_size * k + 1) → Put w o (node_of (o + 1) M 0 tag) w' → Going G S b m w w' (o + 1) (p + 1) (k + 1)
+        pub at_leaf : M ≡ a → {n' : List ℕ} {tag : ℕ} → tag ≡ get32 b (token_size * k + 1) → Put n o (node_of (o + 1) M 0 tag) n' → At G S b m n' s (p + 1) (o + 1) (k + 1)
         unfolding token_at
-        at_leaf e w' tag f u₀ =
-            let u : Put w o (node_of (o + 1) M 0 (get32 b (token_size * k + 1))) w' = rw f at u₀ in
-            let l : k < m = by_cases (ℕ_discrete k m) (λ z. absurd (let q = byte_out b (token_size * k) (omega (arith, g.long)) in omega (arith, q, top_symbol.0))) (λ z. omega arith) in
+        at_leaf e {n'} {tag} f u₀ =
+            let u : Put n o (node_of (o + 1) M 0 (get32 b (token_size * k + 1))) n' = rw f at u₀ in
+            let l : k < m = by_cases (ℕ_discrete k m) (λ z. absurd (let q = byte_out b (token_size * k) (omega (arith, g.long)) in omega (arith, q, top_symbol.0))) (λ z. omega (arith, h.matched)) in
             let q : m - k ≡ suc (m - (k + 1)) = omega arith in
-            let c : o + (length w - p) ≡ o + 1 + (length w' - (p + 1)) = omega (arith, u.long) in
-            let d : drop (p + 1) w' ≡ drop (p + 1) w = drop_kept w w' (p + 1) (node_size * o + node_size) u.long (omega arith) u.behind in
+            let c : o + (length s - p) ≡ o + 1 + (length s - (p + 1)) = omega arith in
             let z : suc k ≡ k + 1 = omega arith in
-            let x : Parsing G S (tokens_from b m 0) (M ∷ drop (p + 1) w) (token_at b k ∷ tokens_from b (m - (k + 1)) (k + 1)) (o + (length w - p)) k (nodes_from w o 0) = rw q at here in
-            let y : Parsing G S (tokens_from b m 0) (drop (p + 1) w) (tokens_from b (m - (k + 1)) (k + 1)) (o + (length w - p)) (suc k) (nodes_from w o 0 ++ (node_of (o + 1) M 0 (get32 b (token_size * k + 1)) ∷ [])) =
+            let x : Parsing G S (tokens_from b m 0) (M ∷ drop (p + 1) s) (token_at b k ∷ tokens_from b (m - (k + 1)) (k + 1)) (o + (length s - p)) k (nodes_from n o 0) = rw q at here in
+            let y : Parsing G S (tokens_from b m 0) (drop (p + 1) s) (tokens_from b (m - (k + 1)) (k + 1)) (o + (length s - p)) (suc k) (nodes_from n o 0 ++ (node_of (o + 1) M 0 (get32 b (token_size * k + 1)) ∷ [])) =
             parsing_match {G = G} (o + 1) M (token_at b k) terminal (e ∙ ea) x
             in
             record {
-              long = u.long;
-              low = omega (arith, u.long);
-              room = omega (arith, u.long);
+              parsing = rw (put_last u, ← c) (rw z at y);
+              symbols = others;
+              numbered = rw (put_last u) (numbered_last (node_of (o + 1) M 0 (get32 b (token_size * k + 1))) (omega (arith, length_nodes n o 0)) h.numbered);
+              low = omega arith;
+              room = omega (arith, h.room);
               matched = omega arith;
-              at = record {
-                parsing = rw (d, put_last u, ← c) (rw z at y);
-                symbols = rw d others;
-                numbered = rw (put_last u) (numbered_last (node_of (o + 1) M 0 (get32 b (token_size * k + 1))) (omega (arith, length_nodes w o 0)) h.numbered);
-              };
             }
 
         -- it is not
@@ -274,17 +266,17 @@ module _ (rows : List ℕ) (head : Head) (table b : List ℕ) (m : ℕ) (g : Gro
           only = λ c x. rw (has_one M c x) (itself terminal);
         })))
           where
-            only : {xs : List ℕ} {c : ℕ} → Expects G xs c → xs ≡ M ∷ drop (p + 1) w → c ≡ M
+            only : {xs : List ℕ} {c : ℕ} → Expects G xs c → xs ≡ M ∷ drop (p + 1) s → c ≡ M
             only (prediction {M = N} x) e = let z : N ≡ M = cc in absurd (no_predicted (rw z at x))
             only (itself y) e = cc
             only end e = never (cc)
 
-            odd : {xs : List ℕ} {c : ℕ} → Expects G xs c → xs ≡ M ∷ drop (p + 1) w → c ≡ ahead (tokens_from b (m - k) k) → ⊥
+            odd : {xs : List ℕ} {c : ℕ} → Expects G xs c → xs ≡ M ∷ drop (p + 1) s → c ≡ ahead (tokens_from b (m - k) k) → ⊥
             odd x e f = ne (sym (only x e) ∙ f ∙ sym seen)
 
       -- ---- a nonterminal on top
 
-      module _ (lM : head.t < M) (q : ℕ) (eq : q ≡ byte_at table ((M - head.t - 1) * columns + a)) where
+      module _ (lM : head.t < M) {q : ℕ} (eq : q ≡ byte_at table ((M - head.t - 1) * columns + a)) where
         pub low_row : M - head.t - 1 < max_nonterminals
         unfolding grammar_in
         low_row = omega (arith, top_symbol.1, g.prepared.formed.head.nonterminals.1)
@@ -297,26 +289,26 @@ module _ (rows : List ℕ) (head : Head) (table b : List ℕ) (m : ℕ) (g : Gro
             rw x at (g.tables.prediction (M - head.t - 1) c low_row l)
 
         own : Prediction G M (ahead (tokens_from b (m - k) k)) q
-        own = rw (← seen, eq) (cell a (rw ea (ahead_small k lk)))
+        own = rw (← seen, eq) (cell a (rw ea (ahead_small k h.matched)))
 
         no_terminal : Terminal G M → ⊥
         unfolding grammar_in
         no_terminal y = omega (arith, y.1)
 
         -- nothing is predicted
-        pub at_none : q ≡ 0 → (e : ℕ) → Lit table (M - head.t - 1) e → Parses G S (tokens_from b m 0) (syntax k e)
-        at_none z e u = here.run (syntax k e) (stuck (λ x. nothing x refl refl) (record { small = u.small; all = λ c x. shown x refl; only = λ c x. back c (u.only c x) }))
+        pub at_none : q ≡ 0 → {e : ℕ} → Lit table (M - head.t - 1) e → Parses G S (tokens_from b m 0) (syntax k e)
+        at_none z {e} u = here.run (syntax k e) (stuck (λ x. nothing x refl refl) (record { small = u.small; all = λ c x. shown x refl; only = λ c x. back c (u.only c x) }))
           where
             none_at : {c v : ℕ} → Prediction G M c v → v ≡ 0 → (p : ℕ) → Predicts G M c p → ⊥
             none_at (none f) e p x = f p x
             none_at (some {p = v} x) e p y = omega (arith, (predicted_row x).number, e)
 
-            nothing : {xs : List ℕ} {c : ℕ} → Expects G xs c → xs ≡ M ∷ drop (p + 1) w → c ≡ ahead (tokens_from b (m - k) k) → ⊥
+            nothing : {xs : List ℕ} {c : ℕ} → Expects G xs c → xs ≡ M ∷ drop (p + 1) s → c ≡ ahead (tokens_from b (m - k) k) → ⊥
             nothing (prediction {M = N} {p = p} x) e f = let y : N ≡ M = cc in none_at own z p (rw (y, f) at x)
             nothing (itself {a = c} y) e f = let y' : c ≡ M = cc in no_terminal (rw y' at y)
             nothing end e f = never (cc)
 
-            shown : {xs : List ℕ} {c : ℕ} → Expects G xs c → xs ≡ M ∷ drop (p + 1) w → Has e c
+            shown : {xs : List ℕ} {c : ℕ} → Expects G xs c → xs ≡ M ∷ drop (p + 1) s → Has e c
             shown (prediction {M = N} {a = c} {p = p} x) f =
                 let y : N ≡ M = cc in
                 let x' : Predicts G M c p = rw y at x in
@@ -325,11 +317,11 @@ module _ (rows : List ℕ) (head : Head) (table b : List ℕ) (m : ℕ) (g : Gro
             shown (itself {a = c} y) f = let y' : c ≡ M = cc in absurd (no_terminal (rw y' at y))
             shown end f = never (cc)
 
-            found : {c v : ℕ} → Prediction G M c v → (v ≡ 0 → ⊥) → Expects G (M ∷ drop (p + 1) w) c
+            found : {c v : ℕ} → Prediction G M c v → (v ≡ 0 → ⊥) → Expects G (M ∷ drop (p + 1) s) c
             found (none f) n = absurd (n refl)
             found (some x) n = prediction x
 
-            back : (c : ℕ) → (c < columns) × (byte_at table ((M - head.t - 1) * columns + c) ≡ 0 → ⊥) → Expects G (M ∷ drop (p + 1) w) c
+            back : (c : ℕ) → (c < columns) × (byte_at table ((M - head.t - 1) * columns + c) ≡ 0 → ⊥) → Expects G (M ∷ drop (p + 1) s) c
             back c x = found (cell c x.0) x.1
 
         -- a production is
@@ -349,58 +341,54 @@ module _ (rows : List ℕ) (head : Head) (table b : List ℕ) (m : ℕ) (g : Gro
               (omega (arith, x.number, x.low), rw (z, ← x.body) r.1)
 
           -- without room for its body
-          pub at_crowded : S < o + (length w - p) + length_at rows (q - 1) → Parses G S (tokens_from b m 0) out_of_room
+          pub at_crowded : S < o + (length s - p) + length_at rows (q - 1) → Parses G S (tokens_from b m 0) out_of_room
           at_crowded l = here.run out_of_room (crowded predicted row_of.1 (rw (length_symbols rows (q - 1) (length_at rows (q - 1)) 0) l))
 
           -- or with it
-          pub at_inner : (len : ℕ) → len ≡ length_at rows (q - 1) → o + (length w - p) + len ≤ S → (w₁ w' : List ℕ) (d : ℕ) → d + len ≡ p + 1 → Filled (symbol_at rows (q - 1)) d len w w₁
-              → Put w₁ o (node_of (o + 1) M q 0) w' → Going G S b m w w' (o + 1) d k
-          at_inner len el l w₁ w' d ed u₀ v =
-              let u : Filled (symbol_at rows (q - 1)) d (length_at rows (q - 1)) w w₁ = rw el at u₀ in
+          pub at_inner : {len : ℕ} → len ≡ length_at rows (q - 1) → o + (length s - p) + len ≤ S → {s' n' : List ℕ} {d : ℕ} → d + len ≡ p + 1 → Filled (symbol_at rows (q - 1)) d len s s'
+              → Put n o (node_of (o + 1) M q 0) n' → At G S b m n' s' d (o + 1) k
+          at_inner {len} el l {s'} {n'} {d} ed u₀ v =
+              let u : Filled (symbol_at rows (q - 1)) d (length_at rows (q - 1)) s s' = rw el at u₀ in
               let γ = body_at rows (q - 1) in
               let lγ = length_symbols rows (q - 1) (length_at rows (q - 1)) 0 in
-              let lw : length w' ≡ length w = v.long ∙ u.long in
-              let st : drop d w' ≡ γ ++ drop (p + 1) w = pushed rows w w₁ w' (q - 1) d (p + 1) (node_size * o + node_size) (omega arith) (omega arith) (omega arith) u v.long v.behind in
-              let ns : nodes_from w₁ o 0 ≡ nodes_from w o 0 = nodes_kept w w₁ o 0 (λ j x y. u.before j (omega arith)) in
-              let c : o + (length w - p) + length γ ≡ o + 1 + (length w' - d) = omega (arith, lw, lγ) in
-              let y : Parsing G S (tokens_from b m 0) (γ ++ drop (p + 1) w) (tokens_from b (m - k) k) (o + (length w - p) + length γ) k (nodes_from w o 0 ++ (node_of (o + 1) M q 0 ∷ [])) =
+              let st : drop d s' ≡ γ ++ drop (p + 1) s = pushed rows s s' (q - 1) d (p + 1) (omega arith) (omega arith) u in
+              let c : o + (length s - p) + length γ ≡ o + 1 + (length s' - d) = omega (arith, u.long, lγ) in
+              let y : Parsing G S (tokens_from b m 0) (γ ++ drop (p + 1) s) (tokens_from b (m - k) k) (o + (length s - p) + length γ) k (nodes_from n o 0 ++ (node_of (o + 1) M q 0 ∷ [])) =
               parsing_expand {G = G} (o + 1) M q γ predicted row_of.1 (omega (arith, nz)) (omega (arith, lγ)) here
               in
               record {
-                long = lw;
-                low = omega (arith, lw);
-                room = omega (arith, lw);
-                matched = lk;
-                at = record {
-                  parsing = rw (st, put_last v, ns, ← c) y;
-                  symbols = rw st (each_join (rule_allowed g.prepared.formed row_of.1).symbols others);
-                  numbered = rw (put_last v, ns) (numbered_last (node_of (o + 1) M q 0) (omega (arith, length_nodes w o 0)) h.numbered);
-                };
+                parsing = rw (st, put_last v, ← c) y;
+                symbols = rw st (each_join (rule_allowed g.prepared.formed row_of.1).symbols others);
+                numbered = rw (put_last v) (numbered_last (node_of (o + 1) M q 0) (omega (arith, length_nodes n o 0)) h.numbered);
+                low = omega (arith, u.long);
+                room = omega (arith, u.long);
+                matched = h.matched;
               }
 
     -- ---- no symbol left
 
-    module _ (w : List ℕ) (p o k : ℕ) (lp : length w ≤ p) (h : At G S b m w p o k) where
-      over : Parsing G S (tokens_from b m 0) [] (tokens_from b (m - k) k) (o + (length w - p)) k (nodes_from w o 0)
-      over = rw (drop_of_length-le w {i = p} lp) at h.parsing
+    module _ {n s : List ℕ} {p o k : ℕ} (lp : length s ≤ p) (h : At G S b m n s p o k) where
+      over : Parsing G S (tokens_from b m 0) [] (tokens_from b (m - k) k) (o + (length s - p)) k (nodes_from n o 0)
+      over = rw (drop_of_length-le s {i = p} lp) at h.parsing
 
-      pub at_end : k ≡ m → Done G S b m o w
+      pub at_end : k ≡ m → Done G S b m o n
       at_end e =
           let z : m - k ≡ 0 = omega arith in
           let q = parsing_end (rw z at over) in
-          record { parses = rw (length_nodes w o 0) at q.0; lists = q.1; leaves = q.2; numbered = h.numbered }
+          record { parses = rw (length_nodes n o 0) at q.0; lists = q.1; leaves = q.2; numbered = h.numbered }
 
-      pub at_rest : k < m → Parses G S (tokens_from b m 0) (syntax k 1)
+      pub at_rest : (k ≡ m → ⊥) → Parses G S (tokens_from b m 0) (syntax k 1)
       unfolding token_at
-      at_rest l =
+      at_rest e =
+          let l : k < m = omega (arith, h.matched) in
           let z : m - k ≡ suc (m - (k + 1)) = omega arith in
           let r = rw z at over in
-          r.run (syntax k 1) (stuck (λ x. more x refl refl) (record { small = omega arith; all = λ c x. rw (last x refl) (one_has 0); only = λ c x. rw (has_one 0 c x) end }))
+          r.run (syntax k 1) (stuck (λ x. more l x refl refl) (record { small = omega arith; all = λ c x. rw (last x refl) (one_has 0); only = λ c x. rw (has_one 0 c x) end }))
         where
           last : {xs : List ℕ} {c : ℕ} → Expects G xs c → xs ≡ [] → c ≡ 0
           last (prediction x) e = never (cc)
           last (itself y) e = never (cc)
           last end e = refl
 
-          more : {xs : List ℕ} {c : ℕ} → Expects G xs c → xs ≡ [] → c ≡ byte_at b (token_size * k) → ⊥
-          more x e f = omega (arith, last x e, f, (g.kinds.is k l).0)
+          more : {xs : List ℕ} {c : ℕ} → k < m → Expects G xs c → xs ≡ [] → c ≡ byte_at b (token_size * k) → ⊥
+          more l x e f = omega (arith, last x e, f, (g.kinds.is k l).0)

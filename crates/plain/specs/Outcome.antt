@@ -1,16 +1,14 @@
 -- What the functions of this crate promise, for each case of their answers.
-use Rattle.std.specs.Prelude.{ℕ, ◌+◌, ◌*◌, ◌/◌, ◌%◌, ◌<◌, ◌≡◌, Result, Ok, Err, List, length}
+use Rattle.std.specs.Prelude.{ℕ, ◌*◌, ◌/◌, ◌%◌, ◌<◌, ◌≡◌, Result, Ok, Err, List, length}
 use Rattle.std.proofs.Common.{inl, inr, arith}
 use Rattle.base.specs.Bytes.{byte_at, Bytes}
 use Rattle.grammar.specs.Grammar.{Grammar, TerminalOf}
-use Rattle.grammar.specs.declared.Head.{Head}
 use Rattle.plain.specs.Plain.{Verdict, syntax, out_of_room, Parses}
 use Rattle.plain.specs.Tokens.{token_size, tokens_from, Sentence, Kinds, BadToken, sentence_of, bad_token}
-use Rattle.plain.specs.Machine.{Ground, At, Done, Going}
+use Rattle.plain.specs.Machine.{Done}
 use Rattle.plain.specs.declared.BadToken as bad
 use Rattle.plain.specs.declared.ParseError.{ParseError}
 use Rattle.plain.specs.declared.ParseError.TheVariants.{Syntax, NoRoom}
-use Rattle.plain.specs.declared.Turn.{Turn}
 
 -- m tokens of the kinds 1..t
 pub record Counted (t : ℕ) (b : List ℕ) (m : ℕ) : Type 0 where
@@ -32,11 +30,6 @@ abbrev pub Ran : Grammar → ℕ → List ℕ → ℕ → List ℕ → Result �
 Ran G S b m w (Ok o) = Done G S b m o w
 Ran G S b m w (Err e) = Parses G S (tokens_from b m 0) (verdict_of e)
 
--- after one more node
-abbrev pub Turned : Grammar → ℕ → List ℕ → ℕ → List ℕ → List ℕ → ℕ → Result Turn ParseError → Type 0
-Turned G S b m w w' o (Ok r) = Going G S b m w w' (o + 1) r.top r.token
-Turned G S b m w w' o (Err e) = Parses G S (tokens_from b m 0) (verdict_of e)
-
 -- ---- the ways through the tokens
 
 module _ {t : ℕ} {b : List ℕ} {i : ℕ} (h : Kinds t b i) (f : Bytes b) where
@@ -50,12 +43,3 @@ module _ {t : ℕ} {b : List ℕ} {i : ℕ} (h : Kinds t b i) (f : Bytes b) wher
   told_good q z =
       let l : length b ≡ token_size * i = omega arith in
       rw (← q) (record { long = l; kinds = h; sentence = sentence_of t b i f l h })
-
--- ---- over the same bytes
-
-module _ {b b' : List ℕ} (e : b' ≡ b) where
-  pub ground_same : {rows : List ℕ} {head : Head} {table : List ℕ} {m : ℕ} → Ground rows head table b m → Ground rows head table b' m
-  ground_same h = rw e h
-
-  pub at_same : {G : Grammar} {S m : ℕ} {w : List ℕ} {p o k : ℕ} → At G S b m w p o k → At G S b' m w p o k
-  at_same h = rw e h

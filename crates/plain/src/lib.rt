@@ -1,14 +1,15 @@
 // The plain parse: one loop over a stack in the lent work area, which writes the node list. Each turn takes one symbol off the stack and writes one node.
 #![tactic(auto)]
 
-ghost use Rattle.std.specs.Prelude.{◌≡◌, ◌+◌, ◌-◌, ◌*◌, ◌<◌, ◌≤◌, length};
+ghost use Rattle.std.specs.Prelude.{◌≡◌, ◌+◌, ◌*◌, ◌<◌, ◌≤◌, length};
 ghost use Rattle.base.specs.Filled.{Filled};
-ghost use Rattle.grammar.specs.Limits.{max_body, max_nonterminals, columns};
+ghost use Rattle.grammar.specs.Limits.{max_body, max_nonterminals};
 ghost use Rattle.grammar.specs.Rows.{symbol_at, grammar_in};
 ghost use Rattle.trees.specs.Area.{max_slots};
-ghost use Rattle.plain.specs.Machine.{Lit, marked as markedm, Ground, Begun, At};
+ghost use Rattle.trees.specs.Coded.{node_size};
+ghost use Rattle.plain.specs.Machine.{Lit, Ground, Begun};
 ghost use Rattle.plain.specs.Text.{text_in, parse_size};
-ghost use Rattle.plain.specs.Outcome.{Told, Ran, Turned};
+ghost use Rattle.plain.specs.Outcome.{Told, Ran};
 
 use grammar::Head;
 
@@ -25,13 +26,6 @@ pub struct BadToken {
 pub enum ParseError {
     Syntax(usize, u32),
     NoRoom,
-}
-
-// Where a parse goes on: the top of the stack, and the next token.
-#[derive(Clone, Copy)]
-struct Turn {
-    top: usize,
-    token: usize,
 }
 
 // How many tokens of the kinds 1..t the bytes are.
@@ -52,27 +46,43 @@ pub fn read_tokens(tokens: &[u8], t: usize) -> Result<usize, BadToken>
     }
 }
 
-// The body in row j, `len` symbols, from `at` on.
-fn push(work: &mut [u8], at: usize, rows: &[u8], j: usize, len: usize)
-    requires { (at + len ≤ length work.old) × (len ≤ max_body) }
-    ensures { Filled (symbol_at rows.now j) at len work.old work.new }
-{
-    let mut i: usize = 0;
-    while i < len {
-        work[at + i] = grammar::symbol_at(rows, j, i) as u8;
-        i += 1;
-    }
+// What a parse reads: the grammar's tables and rows, the tokens, and how many slots there are.
+#[derive(Clone, Copy)]
+struct Lent<'a, 'b> {
+    tables: &'a [u8],
+    rows: &'a [u8],
+    head: Head,
+    text: &'b [u8],
+    slots: usize,
+    ghost few: { slots ≤ max_slots },
 }
 
-// The set with c, if v is not 0.
-fn marked(e: u32, c: usize, v: usize) -> u32
-    requires { c < columns }
-    ensures { result ≡ markedm e c v }
+// Where a parse is: so many nodes are written, the symbols from `top` on are left, and so many tokens are matched.
+#[derive(Clone, Copy)]
+struct Place {
+    nodes: usize,
+    top: usize,
+    token: usize,
+}
+
+// The start symbol alone on the stack; its place.
+fn begin(stack: &mut [u8], start: u8) -> usize
+    requires { 1 ≤ length stack.old }
+    ensures { Begun stack.old stack.new result start }
 {
-    if v == 0 {
-        return e;
+    let p = stack.len() - 1;
+    stack[p] = start;
+    p
+}
+
+// The body in row j, `len` symbols, from `at` on.
+fn push(stack: &mut [u8], at: usize, rows: &[u8], j: usize, len: usize)
+    requires { (at + len ≤ length stack.old) × (len ≤ max_body) }
+    ensures { Filled (symbol_at rows.now j) at len stack.old stack.new }
+{
+    for i in 0..len {
+        stack[at + i] = grammar::symbol_at(rows, j, i) as u8;
     }
-    e | (1 << c)
 }
 
 // The lookaheads with a prediction in a row of the tables, as bits.
@@ -80,68 +90,82 @@ fn predicted(tables: &[u8], row: usize) -> u32
     requires { row < max_nonterminals }
     ensures { Lit tables.now row result }
 {
-    let mut e: u32 = 0;
-    let mut c: usize = 0;
-    while c < grammar::COLUMNS {
-        e = marked(e, c, base::byte_at(tables, row * grammar::COLUMNS + c));
-        c += 1;
+    let mut e = 0u32;
+    for c in 0..grammar::COLUMNS {
+        if base::byte_at(tables, row * grammar::COLUMNS + c) != 0 {
+            e |= 1 << c;
+        }
     }
     e
 }
 
-// One turn: o nodes are written, the symbols from p on are left, k of m tokens are matched.
-fn step(
-    m: usize,
-    tables: &[u8],
-    rows: &[u8],
-    head: Head,
-    slots: usize,
-    work: &mut [u8],
-    o: usize,
-    p: usize,
-    k: usize,
-) -> Result<Turn, ParseError>
-    requires { Ground rows.now head tables.now (text_in slots m work.old) m × (slots ≤ max_slots) × (parse_size slots m ≤ length work.old) × (p < length work.old) × (o + (length work.old - p) ≤ slots) × (k ≤ m) × At (grammar_in rows.now head) slots (text_in slots m work.old) m work.old p o k }
-    ensures turned { Turned (grammar_in rows.now head) slots (text_in slots m work.old) m work.old work.new o result }
-    ensures text { text_in slots m work.new ≡ text_in slots m work.old }
-{
-    let x = base::byte_at(work, p);
-    let front = trees::NODE_SIZE * slots;
-    let back = front + TOKEN_SIZE * m;
-    let a = base::byte_at(&work[front..back], TOKEN_SIZE * k);
-    if x <= head.t {
-        if x == a {
-            let tag = base::get32(&work[front..back], TOKEN_SIZE * k + 1);
-            trees::put_node(work, o, o + 1, x, 0, tag);
-            return Ok(Turn {
-                top: p + 1,
-                token: k + 1,
+impl Lent<'_, '_> {
+    ghost use Rattle.plain.specs.Lending.{Grounded, AtPlace, Turned, Ended};
+
+    // One symbol is taken off the stack, and one node is written.
+    fn step(&self, nodes: &mut [u8], stack: &mut [u8], at: Place) -> Result<Place, ParseError>
+        requires ground { Grounded self.now }
+        requires room { node_size * self.now.slots ≤ length nodes.old }
+        requires space { self.now.slots ≤ length stack.old }
+        requires more { at.top < length stack.old }
+        requires on { AtPlace self.now nodes.old stack.old at }
+        ensures { Turned self.now nodes.new stack.new at.nodes result }
+    {
+        let x = usize::from(stack[at.top]);
+        let a = base::byte_at(self.text, TOKEN_SIZE * at.token);
+        if x <= self.head.t {
+            if x != a {
+                return Err(ParseError::Syntax(at.token, 1 << x));
+            }
+            let tag = base::get32(self.text, TOKEN_SIZE * at.token + 1);
+            trees::put_node(nodes, at.nodes, at.nodes + 1, x, 0, tag);
+            return Ok(Place {
+                nodes: at.nodes + 1,
+                top: at.top + 1,
+                token: at.token + 1,
             });
         }
-        return Err(ParseError::Syntax(k, 1 << x));
+        let row = x - self.head.t - 1;
+        let q = base::byte_at(self.tables, row * grammar::COLUMNS + a);
+        if q == 0 {
+            return Err(ParseError::Syntax(at.token, predicted(self.tables, row)));
+        }
+        let len = grammar::length_at(self.rows, q - 1);
+        if self.slots < at.nodes + (stack.len() - at.top) + len {
+            return Err(ParseError::NoRoom);
+        }
+        let top = at.top + 1 - len;
+        push(stack, top, self.rows, q - 1, len);
+        trees::put_node(nodes, at.nodes, at.nodes + 1, x, q, 0);
+        Ok(Place {
+            nodes: at.nodes + 1,
+            top,
+            token: at.token,
+        })
     }
-    let q = base::byte_at(tables, (x - head.t - 1) * grammar::COLUMNS + a);
-    if q == 0 {
-        return Err(ParseError::Syntax(k, predicted(tables, x - head.t - 1)));
-    }
-    let len = grammar::length_at(rows, q - 1);
-    if slots < o + (work.len() - p) + len {
-        return Err(ParseError::NoRoom);
-    }
-    let top = p + 1 - len;
-    push(work, top, rows, q - 1, len);
-    trees::put_node(work, o, o + 1, x, q, 0);
-    Ok(Turn { top, token: k })
-}
 
-// The start symbol alone on the stack; its place.
-fn begin(work: &mut [u8], start: u8) -> usize
-    requires { 1 ≤ length work.old }
-    ensures { Begun work.old work.new result start }
-{
-    let p = work.len() - 1;
-    work[p] = start;
-    p
+    // From the start symbol on, until the stack is empty; how many nodes are written.
+    fn run(&self, nodes: &mut [u8], stack: &mut [u8]) -> Result<usize, ParseError>
+        requires ground { Grounded self.now }
+        requires some { 1 ≤ self.now.slots }
+        requires room { node_size * self.now.slots ≤ length nodes.old }
+        requires space { self.now.slots ≤ length stack.old }
+        ensures { Ended self.now nodes.new result }
+    {
+        let mut at = Place {
+            nodes: 0,
+            top: begin(stack, self.head.start as u8),
+            token: 0,
+        };
+        while at.top < stack.len() {
+            at = self.step(nodes, stack, at)?;
+        }
+        if at.token == self.text.len() / TOKEN_SIZE {
+            Ok(at.nodes)
+        } else {
+            Err(ParseError::Syntax(at.token, 1))
+        }
+    }
 }
 
 // The plain parse of m good tokens into so many slots. The nodes are written at the beginning of `work`, the tokens stand behind the room for them, and the stack is at its end.
@@ -156,18 +180,14 @@ pub fn parse(
     requires { Ground rows.now head tables.now (text_in slots m work.old) m × (1 ≤ slots) × (slots ≤ max_slots) × (parse_size slots m ≤ length work.old) }
     ensures { Ran (grammar_in rows.now head) slots (text_in slots m work.old) m work.new result }
 {
-    let mut p = begin(work, head.start as u8);
-    let mut k: usize = 0;
-    let mut o: usize = 0;
-    while p < work.len() {
-        let turn = step(m, tables, rows, head, slots, work, o, p, k)?;
-        p = turn.top;
-        k = turn.token;
-        o += 1;
-    }
-    if k == m {
-        Ok(o)
-    } else {
-        Err(ParseError::Syntax(k, 1))
-    }
+    let (nodes, rest) = work.split_at_mut(trees::NODE_SIZE * slots);
+    let (text, stack) = rest.split_at_mut(TOKEN_SIZE * m);
+    let lent = Lent {
+        tables,
+        rows,
+        head,
+        text,
+        slots,
+    };
+    lent.run(nodes, stack)
 }
