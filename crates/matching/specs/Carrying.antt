@@ -50,9 +50,6 @@ row_next {ms = ms} {i = i} {y = y} {v = v} h l k e =
       high = λ z a. get_or-set_other ms y z (v + (y - i)) 0 (λ d. omega arith) ∙ h.high z (omega arith);
     })
 
-pub row_end : {ms ms' : List ℕ} {i y stop v : ℕ} → InRow ms i y v ms' → y ≤ stop → stop ≤ y → InRow ms i stop v ms'
-row_end {y = y} {stop = stop} h l k = let e : y ≡ stop = omega arith in rw e at h
-
 pub few_row : {n i stop v : ℕ} {ms ms' : List ℕ} → Few n ms → v + (stop - i) ≤ n + 1 → InRow ms i stop v ms' → Few n ms'
 few_row {i = i} {stop = stop} h l r =
     record {

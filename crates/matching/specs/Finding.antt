@@ -1,5 +1,5 @@
 -- The old node of a symbol, with tokens, that starts with a token: the nodes between a token and the one before it are gone through.
-use Rattle.std.specs.Prelude.{ℕ, zero, suc, ◌+◌, ◌-◌, ◌≤◌, ◌<◌, ◌≡◌, refl, List, [], ◌∷◌, ◌++◌, length, get_or, set, take}
+use Rattle.std.specs.Prelude.{Option, None, Some, ℕ, zero, suc, ◌+◌, ◌-◌, ◌≤◌, ◌<◌, ◌≡◌, refl, List, [], ◌∷◌, ◌++◌, length, get_or, set, take}
 use Rattle.std.proofs.Common.{sym, ap, ◌∙◌, append_assoc, length-append, take_all, take_at, get_or-set_same, get_or-set_other, arith}
 use Rattle.std.proofs.Math.Logic.{by_cases}
 use Rattle.std.proofs.Math.Decide.{ℕ_discrete, dec_lt}
@@ -8,6 +8,7 @@ use Rattle.trees.specs.Nodes.{Node as Entry, inner_node, leaf_node, preorder, le
 use Rattle.trees.specs.Coded.{node_at, nodes_from, length_nodes}
 use Rattle.edits.specs.Keeping.{Edit, Kept, own, beside, Node}
 use Rattle.edits.specs.Places.{tree_size, at_number, Numbered, at_node, at_listed, at_leaves}
+use Rattle.notes.specs.Views.{entry_of}
 use Rattle.matching.specs.Measure.{tree_in, Built, built_size, at_formed, Measured}
 
 -- ---- the leaves before a node
@@ -169,9 +170,6 @@ started_leaf w starts starts' i t p e z l f h =
           (λ x. h.step u (omega arith) v (sym (get_or-set_other starts (t + 1) (u + 1) (i + 1) 0 (λ d. x (omega arith))) ∙ y));
     })
 
-pub started_end : {w starts : List ℕ} {i t n : ℕ} → Started w i t starts → i ≤ n → n ≤ i → Started w n t starts
-started_end {i = i} {n = n} h l k = let e : i ≡ n = omega arith in rw e at h
-
 pub starts_in_lem : {w starts : List ℕ} {n t r hi : ℕ} → Started w n t starts → r ≤ t → hi ≡ get_or starts r 0 → hi ≤ n
 starts_in_lem {r = r} h l e = omega (arith, h.few r l, e)
 
@@ -200,10 +198,10 @@ module _ {w starts : List ℕ} {i t : ℕ} (h : Started w i t starts) where
 
 -- ---- the search
 
--- one of the nodes lo..hi of symbol x with tokens, as 1 + its index, or 0
-pub data Found (w widths : List ℕ) (lo hi x : ℕ) : ℕ → Type 0 where
-  some : {y : ℕ} → lo ≤ y → y < hi → (node_at w y).symbol ≡ x → (get_or widths y 0 ≡ 0 → ⊥) → Found w widths lo hi x (y + 1)
-  none : ((y : ℕ) → lo ≤ y → y < hi → (node_at w y).symbol ≡ x → (get_or widths y 0 ≡ 0 → ⊥) → ⊥) → Found w widths lo hi x 0
+-- one of the nodes lo..hi of symbol x with tokens
+pub data Found (w widths : List ℕ) (lo hi x : ℕ) : Option ℕ → Type 0 where
+  some : {y : ℕ} → lo ≤ y → y < hi → (node_at w y).symbol ≡ x → (get_or widths y 0 ≡ 0 → ⊥) → Found w widths lo hi x (Some y)
+  none : ((y : ℕ) → lo ≤ y → y < hi → (node_at w y).symbol ≡ x → (get_or widths y 0 ≡ 0 → ⊥) → ⊥) → Found w widths lo hi x None
 
 -- there is none before j
 pub record Sought (w widths : List ℕ) (lo j x : ℕ) : Type 0 where
@@ -219,10 +217,10 @@ sought_symbol w widths lo j x s e n h = sought_more w widths lo j x (λ c d. n (
 pub sought_void : (w widths : List ℕ) (lo j x v : ℕ) → v ≡ get_or widths j 0 → v ≡ 0 → Sought w widths lo j x → Sought w widths lo (j + 1) x
 sought_void w widths lo j x v e z h = sought_more w widths lo j x (λ c d. d (sym e ∙ z)) h
 
-pub found_none : (w widths : List ℕ) (lo j hi x : ℕ) → Sought w widths lo j x → hi ≤ j → Found w widths lo hi x 0
+pub found_none : (w widths : List ℕ) (lo j hi x : ℕ) → Sought w widths lo j x → hi ≤ j → Found w widths lo hi x None
 found_none w widths lo j hi x h l = Found.none (λ y a b. h.absent y a (omega arith))
 
-pub found_some : (w widths : List ℕ) (lo j hi x s v : ℕ) → lo ≤ j → j < hi → s ≡ (node_at w j).symbol → s ≡ x → v ≡ get_or widths j 0 → (v ≡ 0 → ⊥) → Found w widths lo hi x (j + 1)
+pub found_some : (w widths : List ℕ) (lo j hi x s v : ℕ) → lo ≤ j → j < hi → s ≡ (node_at w j).symbol → s ≡ x → v ≡ get_or widths j 0 → (v ≡ 0 → ⊥) → Found w widths lo hi x (Some j)
 found_some w widths lo j hi x s v a b e q f n = Found.some a b (sym e ∙ q) (λ z. n (f ∙ z))
 
 -- ---- the old token
@@ -232,27 +230,24 @@ pub data Was (place removed inserted : ℕ) : ℕ → ℕ → Type 0 where
   before : {t' t : ℕ} → t' ≡ t → t < place → Was place removed inserted t' t
   after : {t' t : ℕ} (d : ℕ) → t' ≡ place + inserted + d → t ≡ place + removed + d → Was place removed inserted t' t
 
--- as 1 + t, or 0
-pub data WasTold (place removed inserted t' : ℕ) : ℕ → Type 0 where
-  some : {t : ℕ} → Was place removed inserted t' t → WasTold place removed inserted t' (t + 1)
-  none : ((t : ℕ) → Was place removed inserted t' t → ⊥) → WasTold place removed inserted t' 0
+-- which one it was
+abbrev pub WasTold : (place removed inserted t' : ℕ) → Option ℕ → Type 0
+WasTold place removed inserted t' (Some t) = Was place removed inserted t' t
+WasTold place removed inserted t' None = (t : ℕ) → Was place removed inserted t' t → ⊥
 
 module _ (place removed inserted t' : ℕ) where
-  pub was_before : t' < place → WasTold place removed inserted t' (t' + 1)
-  was_before l = WasTold.some (Was.before refl l)
+  pub was_before : t' < place → WasTold place removed inserted t' (Some t')
+  was_before l = Was.before refl l
 
-  pub was_new : place ≤ t' → t' < place + inserted → WasTold place removed inserted t' 0
-  was_new l k = WasTold.none go
-    where
-      go : (t : ℕ) → Was place removed inserted t' t → ⊥
-      go t (Was.before e m) = omega arith
-      go t (Was.after d e f) = omega arith
+  pub was_new : place ≤ t' → t' < place + inserted → WasTold place removed inserted t' None
+  was_new l k t (Was.before e m) = omega arith
+  was_new l k t (Was.after d e f) = omega arith
 
-  pub was_after : place + inserted ≤ t' → WasTold place removed inserted t' (t' - inserted + removed + 1)
+  pub was_after : place + inserted ≤ t' → WasTold place removed inserted t' (Some (t' - inserted + removed))
   was_after l =
       let e : t' ≡ place + inserted + (t' - place - inserted) = omega arith in
       let f : t' - inserted + removed ≡ place + removed + (t' - place - inserted) = omega arith in
-      WasTold.some (Was.after (t' - place - inserted) e f)
+      Was.after (t' - place - inserted) e f
 
   pub was_one : {t u : ℕ} → Was place removed inserted t' t → Was place removed inserted t' u → t ≡ u
   was_one (Was.before e l) (Was.before f k) = omega arith
@@ -283,39 +278,32 @@ module _ {e : Edit} {place removed inserted : ℕ} (s : Numbers e place removed 
 
 -- ---- the old node
 
--- one of the first n nodes, of symbol x and with tokens, that starts with the token that t' was, as 1 + its index; 0 where none of the tokens below T starts one
-pub data Sourced (w widths : List ℕ) (n T place removed inserted t' x : ℕ) : ℕ → Type 0 where
+-- one of the first n nodes, of symbol x and with tokens, that starts with the token that t' was; none where none of the tokens below T starts one
+pub data Sourced (w widths : List ℕ) (n T place removed inserted t' x : ℕ) : Option ℕ → Type 0 where
   some : {y t : ℕ} → y < n → Was place removed inserted t' t → leaves_to w y ≡ t → (node_at w y).symbol ≡ x → (get_or widths y 0 ≡ 0 → ⊥)
-      → Sourced w widths n T place removed inserted t' x (y + 1)
+      → Sourced w widths n T place removed inserted t' x (Some y)
   none : ((y t : ℕ) → t < T → Was place removed inserted t' t → leaves_to w y ≡ t → (node_at w y).symbol ≡ x → (get_or widths y 0 ≡ 0 → ⊥) → ⊥)
-      → Sourced w widths n T place removed inserted t' x 0
+      → Sourced w widths n T place removed inserted t' x None
 
-pub sourced_few : {w widths : List ℕ} {n T place removed inserted t' x r : ℕ} → Sourced w widths n T place removed inserted t' x r → r ≤ n
+pub sourced_few : {w widths : List ℕ} {n T place removed inserted t' x : ℕ} {r : Option ℕ} → Sourced w widths n T place removed inserted t' x r → entry_of r ≤ n
 sourced_few (Sourced.some l was v y z) = omega arith
 sourced_few (Sourced.none f) = omega arith
 
 module _ (w widths : List ℕ) (n T place removed inserted t' x : ℕ) where
   -- it is a new token
-  pub source_new : {r : ℕ} → WasTold place removed inserted t' r → r ≡ 0 → Sourced w widths n T place removed inserted t' x 0
-  source_new (WasTold.some {t = t} k) e = absurd (omega arith)
-  source_new (WasTold.none k) e = Sourced.none (λ y t l z. absurd (k t z))
-
-  told : {r : ℕ} → WasTold place removed inserted t' r → (r ≡ 0 → ⊥) → Was place removed inserted t' (r - 1)
-  told (WasTold.some {t = t} k) n = let e : t + 1 - 1 ≡ t = omega arith in rw e k
-  told (WasTold.none k) n = absurd (n refl)
+  pub source_new : WasTold place removed inserted t' None → Sourced w widths n T place removed inserted t' x None
+  source_new k = Sourced.none (λ y t l z. absurd (k t z))
 
   -- there is no such token
-  pub source_beyond : {r : ℕ} → WasTold place removed inserted t' r → (r ≡ 0 → ⊥) → T < r → Sourced w widths n T place removed inserted t' x 0
-  source_beyond k z l = Sourced.none (λ y t o v. absurd (omega (arith, was_one place removed inserted t' v (told k z))))
+  pub source_beyond : {r : ℕ} → WasTold place removed inserted t' (Some r) → T ≤ r → Sourced w widths n T place removed inserted t' x None
+  source_beyond k l = Sourced.none (λ y t o v. absurd (omega (arith, was_one place removed inserted t' v k)))
 
-  pub source_found : {r s lo hi : ℕ} {starts : List ℕ} → Started w n T starts → WasTold place removed inserted t' r → (r ≡ 0 → ⊥) → r ≤ T → lo ≡ get_or starts (r - 1) 0 → hi ≡ get_or starts r 0
+  pub source_found : {r lo hi : ℕ} {s : Option ℕ} {starts : List ℕ} → Started w n T starts → WasTold place removed inserted t' (Some r) → r < T → lo ≡ get_or starts r 0 → hi ≡ get_or starts (r + 1) 0
       → Found w widths lo hi x s → Sourced w widths n T place removed inserted t' x s
-  source_found {r} h k z l e f (Found.some {y = y} a c d o) =
-      let q : r - 1 + 1 ≡ r = omega arith in
-      let m : y < n = omega (arith, h.few r l, f) in
-      Sourced.some m (told k z) (starts_token h (r - 1) y (omega arith) (omega (arith, e)) (rw (q, ← f) c)) d o
-  source_found {r} h k z l e f (Found.none absent) =
+  source_found {r} h k l e f (Found.some {y = y} a c d o) =
+      let m : y < n = omega (arith, h.few (r + 1) (omega arith), f) in
+      Sourced.some m k (starts_token h r y l (omega (arith, e)) (rw (← f) c)) d o
+  source_found {r} h k l e f (Found.none absent) =
       Sourced.none (λ y t o v i d c.
-      let u : leaves_to w y ≡ r - 1 = i ∙ was_one place removed inserted t' v (told k z) in
-      let q : r - 1 + 1 ≡ r = omega arith in
-      absent y (omega (arith, e, starts_low h (r - 1) y (omega arith) u)) (rw f (rw q at (starts_high h (r - 1) y (omega arith) u))) d c)
+      let u : leaves_to w y ≡ r = i ∙ was_one place removed inserted t' v k in
+      absent y (omega (arith, e, starts_low h r y (omega arith) u)) (rw f (starts_high h r y l u)) d c)

@@ -1,5 +1,5 @@
 -- Which old node's slot each new node keeps, found node by node in preorder.
-use Rattle.std.specs.Prelude.{ℕ, zero, suc, ◌+◌, ◌-◌, ◌≤◌, ◌<◌, ◌≡◌, refl, ◌⊎◌, List, length, get_or, set}
+use Rattle.std.specs.Prelude.{Option, None, Some, ℕ, zero, suc, ◌+◌, ◌-◌, ◌≤◌, ◌<◌, ◌≡◌, refl, ◌⊎◌, List, length, get_or, set}
 use Rattle.std.proofs.Common.{sym, ap, ◌∙◌, inl, inr, get_or-set_same, get_or-set_other, arith}
 use Rattle.std.proofs.Math.Logic.{by_cases}
 use Rattle.std.proofs.Math.Decide.{ℕ_discrete, dec_lt}
@@ -9,6 +9,7 @@ use Rattle.trees.specs.Coded.{node_at}
 use Rattle.edits.specs.Keeping.{Edit, symbol, own, below, Node, Keeps}
 use Rattle.edits.specs.Places.{tree_size, at_number, at_token, at_below_parent, at_one, Numbered, at_node}
 use Rattle.edits.specs.One.{keeps_node, void_below}
+use Rattle.notes.specs.Views.{entry_of}
 use Rattle.matching.specs.Measure.{tree_in, Built, built_size, Measured, stands}
 use Rattle.matching.specs.Finding.{leaves_to, first_token, all_tokens, Started, Numbers, kept_was, was_kept, Sourced}
 use Rattle.matching.specs.Handing.{kid, HandedAll}
@@ -45,8 +46,8 @@ apart_not z l k (Apart.before x) = omega arith
 -- entry i after the search of the new node at index base + i, which starts with token t
 pub data Seeks (w widths : List ℕ) (n T base place removed inserted i t : ℕ) (ms : List ℕ) : List ℕ → Type 0 where
   void : get_or widths (base + i) 0 ≡ 0 → Seeks w widths n T base place removed inserted i t ms ms
-  full : {v : ℕ} → (get_or widths (base + i) 0 ≡ 0 → ⊥) → Sourced w widths n T place removed inserted t (node_at w (base + i)).symbol v
-      → Seeks w widths n T base place removed inserted i t ms (set ms i v)
+  full : {v : Option ℕ} → (get_or widths (base + i) 0 ≡ 0 → ⊥) → Sourced w widths n T place removed inserted t (node_at w (base + i)).symbol v
+      → Seeks w widths n T base place removed inserted i t ms (set ms i (entry_of v))
   front : t < place → Seeks w widths n T base place removed inserted i t ms (set ms i (i + 1))
 
 -- ---- its turn
@@ -68,10 +69,10 @@ pub record Reach (ends widths : List ℕ) (base place inserted i t stop : ℕ) :
   pub low : i < stop
   pub apart : Apart place inserted t (get_or widths (base + i) 0)
 
--- that node, or 0
-pub data Reached (ends widths : List ℕ) (base place inserted i t : ℕ) : ℕ → Type 0 where
-  some : {stop : ℕ} → Reach ends widths base place inserted i t stop → Reached ends widths base place inserted i t stop
-  none : Reached ends widths base place inserted i t 0
+-- that node, if one is told
+abbrev pub Reached : (ends widths : List ℕ) (base place inserted i t : ℕ) → Option ℕ → Type 0
+Reached ends widths base place inserted i t (Some stop) = Reach ends widths base place inserted i t stop
+Reached ends widths base place inserted i t None = Unit {0}
 
 -- after the turn the loop goes on at node i' with token t'
 pub data Turned (w ends widths : List ℕ) (n T base place removed inserted i t : ℕ) (ms : List ℕ) : ℕ → ℕ → List ℕ → Type 0 where
@@ -92,38 +93,30 @@ module _ {w widths : List ℕ} {n T base place removed inserted i t : ℕ} {ms :
   pub seeks_void : (v : ℕ) → v ≡ get_or widths (base + i) 0 → v ≡ 0 → Seeks w widths n T base place removed inserted i t ms ms
   seeks_void v e z = Seeks.void (sym e ∙ z)
 
-  pub seeks_full : {ms' : List ℕ} (u x v : ℕ) → u ≡ get_or widths (base + i) 0 → (u ≡ 0 → ⊥) → x ≡ (node_at w (base + i)).symbol → Sourced w widths n T place removed inserted t x v → ms' ≡ set ms i v
+  pub seeks_full : {ms' : List ℕ} (u x : ℕ) (v : Option ℕ) → u ≡ get_or widths (base + i) 0 → (u ≡ 0 → ⊥) → x ≡ (node_at w (base + i)).symbol → Sourced w widths n T place removed inserted t x v → ms' ≡ set ms i (entry_of v)
       → Seeks w widths n T base place removed inserted i t ms ms'
   seeks_full u x v e z f h k = rw k (Seeks.full (λ o. z (e ∙ o)) (rw f at h))
 
   pub seeks_front : {ms' : List ℕ} → t < place → ms' ≡ set ms i (i + 1) → Seeks w widths n T base place removed inserted i t ms ms'
   seeks_front l k = rw k (Seeks.front l)
 
-  pub turned_zero : {ends mid : List ℕ} {i' t' : ℕ} (v : ℕ) → Seeks w widths n T base place removed inserted i t ms mid → v ≡ get_or mid i 0 → v ≡ 0 → Stepped w base i t i' t'
+  pub turned_zero : {ends mid : List ℕ} {i' t' : ℕ} → Seeks w widths n T base place removed inserted i t ms mid → entry_of None ≡ get_or mid i 0 → Stepped w base i t i' t'
       → Turned w ends widths n T base place removed inserted i t ms i' t' mid
-  turned_zero v h e z g = Turned.alone h (sym e ∙ z) g
+  turned_zero h e g = Turned.alone h (sym e) g
 
-  pub turned_some : {ends mid ms' : List ℕ} {i' t' : ℕ} (v : ℕ) → Seeks w widths n T base place removed inserted i t ms mid → v ≡ get_or mid i 0 → (v ≡ 0 → ⊥) → HandedAll ends widths base (base + i) (v - 1) mid ms' → Stepped w base i t i' t'
+  pub turned_some : {ends mid ms' : List ℕ} {i' t' : ℕ} (j : ℕ) → Seeks w widths n T base place removed inserted i t ms mid → entry_of (Some j) ≡ get_or mid i 0 → HandedAll ends widths base (base + i) j mid ms' → Stepped w base i t i' t'
       → Turned w ends widths n T base place removed inserted i t ms i' t' ms'
-  turned_some v h e z x g = let o : suc (v - 1) ≡ v = omega arith in Turned.handed (v - 1) h (sym e ∙ sym o) x g
+  turned_some j h e x g = let o : j + 1 ≡ suc j = omega arith in Turned.handed j h (sym e ∙ o) x g
 
-  pub turned_row : {ends mid ms' : List ℕ} {i' : ℕ} (v u : ℕ) → Seeks w widths n T base place removed inserted i t ms mid → v ≡ get_or mid i 0 → (v ≡ 0 → ⊥) → Reached ends widths base place inserted i t i' → (i' ≡ 0 → ⊥)
-      → InRow mid i i' v ms' → u ≡ get_or widths (base + i) 0 → Turned w ends widths n T base place removed inserted i t ms i' (t + u) ms'
-  turned_row v u h e z (Reached.some g) k x f =
-      let o : v ≡ suc (v - 1) = omega arith in
-      Turned.carried (v - 1) h (sym e ∙ o) g (rw o at x) (ap (λ (y : ℕ). t + y) f)
-  turned_row v u h e z Reached.none k x f = absurd (k refl)
-
--- the node behind the subtree is behind node i
-pub reach_low : {ends widths : List ℕ} {base place inserted i t stop : ℕ} → Reached ends widths base place inserted i t stop → (stop ≡ 0 → ⊥) → i < stop
-reach_low (Reached.some h) z = h.low
-reach_low Reached.none z = absurd (z refl)
+  pub turned_row : {ends mid ms' : List ℕ} {i' : ℕ} (j u : ℕ) → Seeks w widths n T base place removed inserted i t ms mid → entry_of (Some j) ≡ get_or mid i 0 → Reach ends widths base place inserted i t i'
+      → InRow mid i i' (j + 1) ms' → u ≡ get_or widths (base + i) 0 → Turned w ends widths n T base place removed inserted i t ms i' (t + u) ms'
+  turned_row j u h e g x f =
+      let o : j + 1 ≡ suc j = omega arith in
+      Turned.carried j h (sym e ∙ o) g (rw o at x) (ap (λ (y : ℕ). t + y) f)
 
 pub reached : {ends widths : List ℕ} {base place inserted i t : ℕ} (stop end u : ℕ) → end ≡ get_or ends (base + i) 0 → u ≡ get_or widths (base + i) 0 → stop ≡ end - base → base + i < end → Apart place inserted t u
-    → Reached ends widths base place inserted i t stop
-reached {ends} {widths} {base} {place} {inserted} {i} {t} stop end u e f d l o =
-    let x : Reach ends widths base place inserted i t stop = record { end_is = omega arith; low = omega arith; apart = rw f at o } in
-    Reached.some x
+    → Reach ends widths base place inserted i t stop
+reached stop end u e f d l o = record { end_is = omega arith; low = omega arith; apart = rw f at o }
 
 -- what the turns stand on: both lists are trees, both were measured, and the old tree's tokens were marked
 pub record Ready (rows w : List ℕ) (n base k : ℕ) (ends widths : List ℕ) (T : ℕ) (starts : List ℕ) : Type 0 where
@@ -182,7 +175,7 @@ module _ {rows w : List ℕ} {n base k : ℕ} {ends widths : List ℕ} {T : ℕ}
     symbol_is : (node_at w (base + i)).symbol ≡ symbol f
     symbol_is = (stands rows w k base r.new_built (base + i) h (omega arith)).symbol_is
 
-    sourced : {v : ℕ} → 1 ≤ own f → Sourced w widths n T place removed inserted t (node_at w (base + i)).symbol v → Matched e old new (suc i) v
+    sourced : {v : Option ℕ} → 1 ≤ own f → Sourced w widths n T place removed inserted t (node_at w (base + i)).symbol v → Matched e old new (suc i) (entry_of v)
     sourced l (Sourced.some {y = y} {t = s} b was lv sy wd) =
         let o : Numbered 1 0 0 0 old (suc y) = at_node old (suc y) (omega arith) (omega (arith, built_size rows w n 0)) in
         let tk' : o.token ≡ s = let z = first_token rows w n 0 r.old_built y o.node (omega arith) in omega (arith, lv, z) in
@@ -212,7 +205,7 @@ module _ {rows w : List ℕ} {n base k : ℕ} {ends widths : List ℕ} {T : ℕ}
     module _ (fronts : Fronts e old new) {ms : List ℕ} (s : Status e old new i ms) (long : i < length ms) where
       pub sought_here : {mid : List ℕ} → Seeks w widths n T base place removed inserted i t ms mid → Matched e old new (suc i) (get_or mid i 0)
       sought_here (Seeks.void z) = s.void (suc i) q m u i f h refl (omega (arith, at_below_parent (omega arith) h)) (sym width_is ∙ z)
-      sought_here (Seeks.full {v = v} z x) = rw (get_or-set_same ms i v 0 long) (sourced (some_of (own f) (λ o. z (width_is ∙ o))) x)
+      sought_here (Seeks.full {v = v} z x) = rw (get_or-set_same ms i (entry_of v) 0 long) (sourced (some_of (own f) (λ o. z (width_is ∙ o))) x)
       sought_here (Seeks.front l) =
           let o : i + 1 ≡ suc i = omega arith in
           let one : 1 ≤ suc i = omega arith in
@@ -220,7 +213,7 @@ module _ {rows w : List ℕ} {n base k : ℕ} {ends widths : List ℕ} {T : ℕ}
 
       pub sought_there : {mid : List ℕ} → Seeks w widths n T base place removed inserted i t ms mid → (y : ℕ) → (y ≡ i → ⊥) → get_or mid y 0 ≡ get_or ms y 0
       sought_there (Seeks.void z) y d = refl
-      sought_there (Seeks.full {v = v} z x) y d = get_or-set_other ms i y v 0 d
+      sought_there (Seeks.full {v = v} z x) y d = get_or-set_other ms i y (entry_of v) 0 d
       sought_there (Seeks.front l) y d = get_or-set_other ms i y (i + 1) 0 d
 
       -- it keeps nothing, and hands nothing on

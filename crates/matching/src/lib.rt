@@ -5,17 +5,21 @@
 // A kept node that the edit doesn't touch has the old node's very subtree: all of it is kept node by node, and need not be gone through.
 #![tactic(auto)]
 
-ghost use Rattle.std.specs.Prelude.{◌≡◌, ◌+◌, ◌-◌, ◌<◌, ◌≤◌, length, get_or};
+ghost use Rattle.std.specs.Prelude.{◌≡◌, ◌+◌, ◌-◌, ◌<◌, ◌≤◌, length, get_or, IfSome};
 ghost use Rattle.base.specs.Tells.{Tells};
 ghost use Rattle.trees.specs.Nodes.{trees};
 ghost use Rattle.trees.specs.Area.{max_slots};
-ghost use Rattle.notes.specs.Views.{notes_size, nodes_in, ends_in, widths_in, starts_in, matches_in, Viewed};
+ghost use Rattle.notes.specs.Views.{notes_size, nodes_in, matches_in, entry_of};
+ghost use Rattle.notes.specs.Lists.{nodes_of, ends_of, widths_of, starts_of, matches_of};
 ghost use Rattle.matching.specs.Measure.{tree_in, Built, Measured, Spanned, Gauged};
 ghost use Rattle.matching.specs.Finding.{Leaved, Started, Found, WasTold, Sourced};
 ghost use Rattle.matching.specs.Handing.{Rising, Few, Handed, HandedAll};
 ghost use Rattle.matching.specs.Carrying.{InRow};
 ghost use Rattle.matching.specs.Matching.{Apart, Seeks, Reached, Stepped, Turned};
 ghost use Rattle.matching.specs.Through.{Blank, Matches, Matching};
+ghost use Rattle.matching.specs.Noted.{Spans, Starts, Entries};
+
+use notes::Notes;
 
 // The index behind a node's subtree, and the number of its tokens.
 #[derive(Clone, Copy)]
@@ -24,12 +28,38 @@ struct Span {
     width: usize,
 }
 
+// How many nodes the old tree and the new one have, and how many tokens the old one.
+#[derive(Clone, Copy)]
+struct Sizes {
+    old: usize,
+    new: usize,
+    tokens: usize,
+}
+
+// Which token an edit begins at, and how many it removes and inserts there.
+#[derive(Clone, Copy)]
+struct Change {
+    place: usize,
+    removed: usize,
+    inserted: usize,
+    ghost place_fits: { place ≤ 65535 },
+    ghost removed_fits: { removed ≤ 65535 },
+    ghost inserted_fits: { inserted ≤ 65535 },
+}
+
+// A new node by its number, and the number of the token that it starts with.
+#[derive(Clone, Copy)]
+struct Spot {
+    node: usize,
+    token: usize,
+}
+
 // Of node i of the n from `base` on, where those behind it have been measured.
-fn span_of(work: &[u8], slots: usize, base: usize, n: usize, rows: &[u8], i: usize) -> Span
-    requires { Built rows.now (nodes_in slots work.now) n base × (i < n) × (slots ≤ max_slots) × (notes_size slots ≤ length work.now) × (base + n ≤ slots + slots) × Measured (tree_in rows.now (nodes_in slots work.now) n base) base (i + 1) (ends_in slots work.now) (widths_in slots work.now) }
-    ensures { Spanned (tree_in rows.now (nodes_in slots work.now) n base) base i result.end result.width × (result.end ≤ base + n) × (result.width ≤ n) }
+fn span_of(notes: &Notes, base: usize, n: usize, rows: &[u8], i: usize) -> Span
+    requires { Built rows.now (nodes_of notes.now) n base × (i < n) × (base + n ≤ notes.now.slots + notes.now.slots) × Measured (tree_in rows.now (nodes_of notes.now) n base) base (i + 1) (ends_of notes.now) (widths_of notes.now) }
+    ensures { Spanned (tree_in rows.now (nodes_of notes.now) n base) base i result.end result.width × (result.end ≤ base + n) × (result.width ≤ n) }
 {
-    let p = notes::production_in(work, slots, base + i);
+    let p = notes.production_of(base + i);
     if p == 0 {
         return Span {
             end: base + i + 1,
@@ -37,312 +67,244 @@ fn span_of(work: &[u8], slots: usize, base: usize, n: usize, rows: &[u8], i: usi
         };
     }
     let k = grammar::length_at(rows, p - 1);
-    let mut c = base + i + 1;
+    let mut end = base + i + 1;
     let mut width: usize = 0;
-    let mut m: usize = 0;
-    while m < k {
-        width += notes::width_of(work, slots, c);
-        c = notes::end_of(work, slots, c);
-        m += 1;
+    for _m in 0..k {
+        width += notes.width_of(end);
+        end = notes.end_of(end);
     }
-    Span { end: c, width }
+    Span { end, width }
 }
 
 // Measures the n nodes from `base` on.
-fn measure(work: &mut [u8], slots: usize, base: usize, n: usize, rows: &[u8])
-    requires { Built rows.now (nodes_in slots work.old) n base × (slots ≤ max_slots) × (notes_size slots ≤ length work.old) × (base + n ≤ slots + slots) }
-    ensures { Gauged (tree_in rows.now (nodes_in slots work.old) n base) base 0 (ends_in slots work.old) (widths_in slots work.old) (ends_in slots work.new) (widths_in slots work.new) × Viewed slots work.new (nodes_in slots work.old) (ends_in slots work.new) (widths_in slots work.new) (starts_in slots work.old) (matches_in slots work.old) }
+fn measure(notes: &mut Notes, base: usize, n: usize, rows: &[u8])
+    requires { Built rows.now (nodes_of notes.old) n base × (base + n ≤ notes.old.slots + notes.old.slots) }
+    ensures { Gauged (tree_in rows.now (nodes_of notes.old) n base) base 0 (ends_of notes.old) (widths_of notes.old) (ends_of notes.new) (widths_of notes.new) × Spans notes.old notes.new }
 {
-    let mut i = n;
-    while 0 < i {
-        i -= 1;
-        let s = span_of(work, slots, base, n, rows, i);
-        notes::set_span(work, slots, base + i, s.end, s.width);
+    for i in (0..n).rev() {
+        let span = span_of(notes, base, n, rows, i);
+        notes.set_span(base + i, span.end, span.width);
     }
 }
 
 // Where the nodes of each token begin among the first n; the number of tokens. The first begin at 0, as the first entry says.
-fn mark_starts(work: &mut [u8], slots: usize, n: usize) -> usize
-    requires { (n ≤ slots) × (slots ≤ max_slots) × (notes_size slots ≤ length work.old) × (get_or (starts_in slots work.old) 0 0 ≡ 0) }
-    ensures { Started (nodes_in slots work.old) n result (starts_in slots work.new) × Viewed slots work.new (nodes_in slots work.old) (ends_in slots work.old) (widths_in slots work.old) (starts_in slots work.new) (matches_in slots work.old) }
+fn mark_starts(notes: &mut Notes, n: usize) -> usize
+    requires { (n ≤ notes.old.slots) × (get_or (starts_of notes.old) 0 0 ≡ 0) }
+    ensures { Started (nodes_of notes.old) n result (starts_of notes.new) × Starts notes.old notes.new }
 {
     let mut t: usize = 0;
-    let mut i: usize = 0;
-    while i < n {
-        let p = notes::production_in(work, slots, i);
-        i += 1;
-        if p != 0 {
+    for i in 0..n {
+        if notes.production_of(i) != 0 {
             continue;
         }
         t += 1;
-        notes::set_start(work, slots, t, i);
+        notes.set_start(t, i + 1);
     }
     t
 }
 
-// One of the nodes lo..hi of symbol x with tokens, as 1 + its index, or 0.
-fn find(work: &[u8], slots: usize, lo: usize, hi: usize, x: usize) -> usize
-    requires { (hi ≤ slots) × (slots ≤ max_slots) × (notes_size slots ≤ length work.now) }
-    ensures { Found (nodes_in slots work.now) (widths_in slots work.now) lo hi x result }
+// One of the nodes lo..hi of symbol x with tokens.
+fn find(notes: &Notes, lo: usize, hi: usize, x: usize) -> Option<usize>
+    requires { hi ≤ notes.now.slots }
+    ensures { Found (nodes_of notes.now) (widths_of notes.now) lo hi x result }
 {
-    let mut j = lo;
-    while j < hi {
-        let at = j;
-        j += 1;
-        if notes::symbol_in(work, slots, at) != x {
+    for j in lo..hi {
+        if notes.symbol_of(j) != x {
             continue;
         }
-        if notes::width_of(work, slots, at) == 0 {
+        if notes.width_of(j) == 0 {
             continue;
         }
-        return j;
+        return Some(j);
     }
-    0
+    None
 }
 
-// The token that t of the new sentence was in the old one, as 1 + its number; 0 for a new one.
-fn was(t: usize, place: usize, removed: usize, inserted: usize) -> usize
-    requires { (t ≤ 65535) × (place ≤ 65535) × (removed ≤ 65535) × (inserted ≤ 65535) }
-    ensures { WasTold place removed inserted t result }
+// The token that t of the new sentence was in the old one, if it isn't a new one.
+fn was(change: Change, t: usize) -> Option<usize>
+    requires { t ≤ 65535 }
+    ensures { WasTold change.place change.removed change.inserted t result }
 {
-    if t < place {
-        return t + 1;
+    if t < change.place {
+        return Some(t);
     }
-    if t < place + inserted {
-        return 0;
+    if t < change.place + change.inserted {
+        return None;
     }
-    t - inserted + removed + 1
+    Some(t - change.inserted + change.removed)
 }
 
-// The old node of symbol x, with tokens, that starts with the token that t of the new sentence was, as 1 + its index; 0 where there is none.
-fn source(
-    work: &[u8],
-    slots: usize,
-    n: usize,
-    tokens: usize,
-    place: usize,
-    removed: usize,
-    inserted: usize,
-    t: usize,
-    x: usize,
-) -> usize
-    requires { (n ≤ slots) × (slots ≤ max_slots) × (notes_size slots ≤ length work.now) × Started (nodes_in slots work.now) n tokens (starts_in slots work.now) × (t ≤ 65535) × (place ≤ 65535) × (removed ≤ 65535) × (inserted ≤ 65535) }
-    ensures { Sourced (nodes_in slots work.now) (widths_in slots work.now) n tokens place removed inserted t x result }
+// The old node of symbol x, with tokens, that starts with the token that t of the new sentence was.
+fn source(notes: &Notes, sizes: Sizes, change: Change, t: usize, x: usize) -> Option<usize>
+    requires { (sizes.old ≤ notes.now.slots) × Started (nodes_of notes.now) sizes.old sizes.tokens (starts_of notes.now) × (t ≤ 65535) }
+    ensures { Sourced (nodes_of notes.now) (widths_of notes.now) sizes.old sizes.tokens change.place change.removed change.inserted t x result }
 {
-    let u = was(t, place, removed, inserted);
-    if u == 0 {
-        return 0;
+    let u = was(change, t)?;
+    if sizes.tokens <= u {
+        return None;
     }
-    if tokens < u {
-        return 0;
-    }
-    let lo = notes::start_of(work, slots, u - 1);
-    let hi = notes::start_of(work, slots, u);
-    find(work, slots, lo, hi, x)
+    let lo = notes.start_of(u);
+    let hi = notes.start_of(u + 1);
+    find(notes, lo, hi, x)
 }
 
 // The new node at c keeps the slot of the old one at d, if neither has tokens.
-fn hand(work: &mut [u8], slots: usize, c: usize, d: usize)
-    requires { (slots ≤ max_slots) × (notes_size slots ≤ length work.old) × (slots ≤ c) × (c < slots + slots) × (d < slots) }
-    ensures { Handed (widths_in slots work.old) c d slots (matches_in slots work.old) (matches_in slots work.new) × Viewed slots work.new (nodes_in slots work.old) (ends_in slots work.old) (widths_in slots work.old) (starts_in slots work.old) (matches_in slots work.new) }
+fn hand(notes: &mut Notes, c: usize, d: usize)
+    requires { (notes.old.slots ≤ c) × (c < notes.old.slots + notes.old.slots) × (d < notes.old.slots) }
+    ensures { Handed (widths_of notes.old) c d notes.old.slots (matches_of notes.old) (matches_of notes.new) × Entries notes.old notes.new }
 {
-    if notes::width_of(work, slots, c) != 0 {
+    if notes.width_of(c) != 0 {
         return;
     }
-    if notes::width_of(work, slots, d) != 0 {
+    if notes.width_of(d) != 0 {
         return;
     }
-    notes::set_match(work, slots, c - slots, d + 1);
+    let i = c - notes.slots;
+    notes.set_match(i, Some(d));
 }
 
 // The new node at i keeps the slot of the old one at j; their children.
-fn hand_on(work: &mut [u8], slots: usize, n: usize, k: usize, i: usize, j: usize)
-    requires { (n ≤ slots) × (k ≤ slots) × (slots ≤ max_slots) × (notes_size slots ≤ length work.old) × Rising (ends_in slots work.old) 0 n × Rising (ends_in slots work.old) slots (slots + k) × (slots ≤ i) × (i < slots + k) × (j < n) × Few n (matches_in slots work.old) }
-    ensures { HandedAll (ends_in slots work.old) (widths_in slots work.old) slots i j (matches_in slots work.old) (matches_in slots work.new) × Few n (matches_in slots work.new) × Viewed slots work.new (nodes_in slots work.old) (ends_in slots work.old) (widths_in slots work.old) (starts_in slots work.old) (matches_in slots work.new) }
+fn hand_on(notes: &mut Notes, sizes: Sizes, i: usize, j: usize)
+    requires { (sizes.old ≤ notes.old.slots) × (sizes.new ≤ notes.old.slots) × Rising (ends_of notes.old) 0 sizes.old × Rising (ends_of notes.old) notes.old.slots (notes.old.slots + sizes.new) × (notes.old.slots ≤ i) × (i < notes.old.slots + sizes.new) × (j < sizes.old) × Few sizes.old (matches_of notes.old) }
+    ensures { HandedAll (ends_of notes.old) (widths_of notes.old) notes.old.slots i j (matches_of notes.old) (matches_of notes.new) × Few sizes.old (matches_of notes.new) × Entries notes.old notes.new }
 {
-    let last = notes::end_of(work, slots, i);
-    let stop = notes::end_of(work, slots, j);
+    let last = notes.end_of(i);
+    let stop = notes.end_of(j);
     let mut c = i + 1;
     let mut d = j + 1;
+    // a `while`: each step goes on behind two subtrees, as far as they are long, which no range counts
     while c < last {
         if stop <= d {
             return;
         }
-        hand(work, slots, c, d);
-        c = notes::end_of(work, slots, c);
-        d = notes::end_of(work, slots, d);
+        hand(notes, c, d);
+        c = notes.end_of(c);
+        d = notes.end_of(d);
     }
 }
 
-// Entries i..stop become v, v + 1 and so on.
-fn carry(work: &mut [u8], slots: usize, i: usize, stop: usize, v: usize)
-    requires { (slots ≤ max_slots) × (notes_size slots ≤ length work.old) × (i ≤ stop) × (stop ≤ slots) × (v ≤ slots) }
-    ensures { InRow (matches_in slots work.old) i stop v (matches_in slots work.new) × Viewed slots work.new (nodes_in slots work.old) (ends_in slots work.old) (widths_in slots work.old) (starts_in slots work.old) (matches_in slots work.new) }
+// The new nodes i..stop keep the slots of the old ones j, j + 1 and so on.
+fn carry(notes: &mut Notes, i: usize, stop: usize, j: usize)
+    requires { (i ≤ stop) × (stop ≤ notes.old.slots) × (j < notes.old.slots) }
+    ensures { InRow (matches_of notes.old) i stop (j + 1) (matches_of notes.new) × Entries notes.old notes.new }
 {
-    let mut y = i;
-    while y < stop {
-        notes::set_match(work, slots, y, v + (y - i));
-        y += 1;
+    for y in i..stop {
+        notes.set_match(y, Some(j + (y - i)));
     }
 }
 
-// Looks for the old node of the new node i, which starts with token t, if it has tokens; the entry.
-fn seek(
-    work: &mut [u8],
-    slots: usize,
-    n: usize,
-    tokens: usize,
-    place: usize,
-    removed: usize,
-    inserted: usize,
-    i: usize,
-    t: usize,
-    width: usize,
-) -> usize
-    requires { (n ≤ slots) × (slots ≤ max_slots) × (notes_size slots ≤ length work.old) × (i < slots) × Started (nodes_in slots work.old) n tokens (starts_in slots work.old) × (t ≤ 65535) × (place ≤ 65535) × (removed ≤ 65535) × (inserted ≤ 65535) × Few n (matches_in slots work.old) × (width ≡ get_or (widths_in slots work.old) (slots + i) 0) }
-    ensures { Seeks (nodes_in slots work.old) (widths_in slots work.old) n tokens slots place removed inserted i t (matches_in slots work.old) (matches_in slots work.new) × Few n (matches_in slots work.new) × Viewed slots work.new (nodes_in slots work.old) (ends_in slots work.old) (widths_in slots work.old) (starts_in slots work.old) (matches_in slots work.new) × (result ≡ get_or (matches_in slots work.new) i 0) }
+// Looks for the old node of the new node at a spot, if it has tokens; the one whose slot it keeps.
+fn seek(notes: &mut Notes, sizes: Sizes, change: Change, at: Spot, width: usize) -> Option<usize>
+    requires { (sizes.old ≤ notes.old.slots) × (at.node < notes.old.slots) × Started (nodes_of notes.old) sizes.old sizes.tokens (starts_of notes.old) × (at.token ≤ 65535) × Few sizes.old (matches_of notes.old) × (width ≡ get_or (widths_of notes.old) (notes.old.slots + at.node) 0) }
+    ensures { Seeks (nodes_of notes.old) (widths_of notes.old) sizes.old sizes.tokens notes.old.slots change.place change.removed change.inserted at.node at.token (matches_of notes.old) (matches_of notes.new) × Few sizes.old (matches_of notes.new) × Entries notes.old notes.new × (entry_of result ≡ get_or (matches_of notes.new) at.node 0) }
 {
     if width == 0 {
-        return notes::match_of(work, slots, i);
+        return notes.match_of(at.node);
     }
     // such a node's number is an old node's in any case; the first test shows it
-    if i < n {
-        if t < place {
-            notes::set_match(work, slots, i, i + 1);
-            return i + 1;
+    if at.node < sizes.old {
+        if at.token < change.place {
+            notes.set_match(at.node, Some(at.node));
+            return Some(at.node);
         }
     }
-    let x = notes::symbol_in(work, slots, slots + i);
-    let v = source(work, slots, n, tokens, place, removed, inserted, t, x);
-    notes::set_match(work, slots, i, v);
-    v
+    let i = notes.slots + at.node;
+    let x = notes.symbol_of(i);
+    let j = source(notes, sizes, change, at.token, x);
+    notes.set_match(at.node, j);
+    j
 }
 
 // Whether the edit doesn't touch a node that starts with token t: it has no tokens, or starts behind the inserted ones, or the token behind it is
 // before the place, too.
-fn is_apart(t: usize, width: usize, place: usize, inserted: usize) -> bool
-    requires { (t ≤ 65535) × (width ≤ 65535) × (place ≤ 65535) × (inserted ≤ 65535) }
-    ensures { Tells (Apart place inserted t width) result }
+fn is_apart(change: Change, t: usize, width: usize) -> bool
+    requires { (t ≤ 65535) × (width ≤ 65535) }
+    ensures { Tells (Apart change.place change.inserted t width) result }
 {
     if width == 0 {
         return true;
     }
-    if place + inserted <= t {
+    if change.place + change.inserted <= t {
         return true;
     }
-    if t + width < place {
+    if t + width < change.place {
         return true;
     }
     false
 }
 
-// The number of the new node behind the subtree of new node i, whose entry is v, if it is carried along; else 0. Of trees that are derivations the last test never fails:
-// it shows that the entries stay below n without knowing so.
+// The number of the new node behind the subtree of the one at a spot, which keeps the slot of old node j, if it is carried along. Of trees that are derivations the last
+// test never fails: it shows that the entries stay below the number of old nodes without knowing so.
 fn reach(
-    work: &[u8],
-    slots: usize,
-    n: usize,
-    k: usize,
-    place: usize,
-    inserted: usize,
-    i: usize,
-    t: usize,
+    notes: &Notes,
+    sizes: Sizes,
+    change: Change,
+    at: Spot,
     width: usize,
-    v: usize,
-) -> usize
-    requires { (n ≤ slots) × (k ≤ slots) × (slots ≤ max_slots) × (notes_size slots ≤ length work.now) × (i < k) × (place ≤ 65535) × (inserted ≤ 65535) × Rising (ends_in slots work.now) slots (slots + k) × (width ≡ get_or (widths_in slots work.now) (slots + i) 0) × (v ≤ n) × (t ≤ 65535) × (width ≤ 65535) }
-    ensures { Reached (ends_in slots work.now) (widths_in slots work.now) slots place inserted i t result × (v + (result - i) ≤ n + 1) × (result ≤ k) }
+    j: usize,
+) -> Option<usize>
+    requires { (sizes.old ≤ notes.now.slots) × (sizes.new ≤ notes.now.slots) × (at.node < sizes.new) × Rising (ends_of notes.now) notes.now.slots (notes.now.slots + sizes.new) × (width ≡ get_or (widths_of notes.now) (notes.now.slots + at.node) 0) × (j < sizes.old) × (at.token ≤ 65535) × (width ≤ 65535) }
+    ensures { Reached (ends_of notes.now) (widths_of notes.now) notes.now.slots change.place change.inserted at.node at.token result × IfSome result (λ stop. (j + (stop - at.node) ≤ sizes.old) × (stop ≤ sizes.new)) }
 {
-    if !is_apart(t, width, place, inserted) {
-        return 0;
+    if !is_apart(change, at.token, width) {
+        return None;
     }
-    let stop = notes::end_of(work, slots, slots + i) - slots;
-    if n + 1 < v + (stop - i) {
-        return 0;
+    let stop = notes.end_of(notes.slots + at.node) - notes.slots;
+    if sizes.old < j + (stop - at.node) {
+        return None;
     }
-    stop
+    Some(stop)
 }
 
-// Where to go on: at this node, which starts with this token.
-#[derive(Clone, Copy)]
-struct Next {
-    node: usize,
-    token: usize,
-}
-
-// Behind the new node i alone, which starts with token t.
-fn step(work: &[u8], slots: usize, i: usize, t: usize) -> Next
-    requires { (slots ≤ max_slots) × (notes_size slots ≤ length work.now) × (i < slots) × (t ≤ 65535) }
-    ensures { Stepped (nodes_in slots work.now) slots i t result.node result.token }
+// Behind the new node at a spot alone.
+fn step(notes: &Notes, at: Spot) -> Spot
+    requires { (at.node < notes.now.slots) × (at.token ≤ 65535) }
+    ensures { Stepped (nodes_of notes.now) notes.now.slots at.node at.token result.node result.token }
 {
-    if notes::production_in(work, slots, slots + i) != 0 {
-        return Next {
-            node: i + 1,
-            token: t,
+    if notes.production_of(notes.slots + at.node) != 0 {
+        return Spot {
+            node: at.node + 1,
+            token: at.token,
         };
     }
-    Next {
-        node: i + 1,
-        token: t + 1,
+    Spot {
+        node: at.node + 1,
+        token: at.token + 1,
     }
 }
 
-// The new node i, which starts with token t.
-fn turn(
-    work: &mut [u8],
-    slots: usize,
-    n: usize,
-    k: usize,
-    tokens: usize,
-    place: usize,
-    removed: usize,
-    inserted: usize,
-    i: usize,
-    t: usize,
-) -> Next
-    requires { (n ≤ slots) × (k ≤ slots) × (slots ≤ max_slots) × (notes_size slots ≤ length work.old) × (i < k) × Started (nodes_in slots work.old) n tokens (starts_in slots work.old) × (t ≤ 65535) × (place ≤ 65535) × (removed ≤ 65535) × (inserted ≤ 65535) × Rising (ends_in slots work.old) 0 n × Rising (ends_in slots work.old) slots (slots + k) × Few n (matches_in slots work.old) }
-    ensures { Turned (nodes_in slots work.old) (ends_in slots work.old) (widths_in slots work.old) n tokens slots place removed inserted i t (matches_in slots work.old) result.node result.token (matches_in slots work.new) × Few n (matches_in slots work.new) × Viewed slots work.new (nodes_in slots work.old) (ends_in slots work.old) (widths_in slots work.old) (starts_in slots work.old) (matches_in slots work.new) × (result.node ≤ k) }
+// The new node at a spot; where to go on.
+fn turn(notes: &mut Notes, sizes: Sizes, change: Change, at: Spot) -> Spot
+    requires { (sizes.old ≤ notes.old.slots) × (sizes.new ≤ notes.old.slots) × (at.node < sizes.new) × Started (nodes_of notes.old) sizes.old sizes.tokens (starts_of notes.old) × (at.token ≤ 65535) × Rising (ends_of notes.old) 0 sizes.old × Rising (ends_of notes.old) notes.old.slots (notes.old.slots + sizes.new) × Few sizes.old (matches_of notes.old) }
+    ensures { Turned (nodes_of notes.old) (ends_of notes.old) (widths_of notes.old) sizes.old sizes.tokens notes.old.slots change.place change.removed change.inserted at.node at.token (matches_of notes.old) result.node result.token (matches_of notes.new) × Few sizes.old (matches_of notes.new) × Entries notes.old notes.new × (result.node ≤ sizes.new) }
 {
-    let width = notes::width_of(work, slots, slots + i);
-    let v = seek(
-        work, slots, n, tokens, place, removed, inserted, i, t, width,
-    );
-    if v == 0 {
-        return step(work, slots, i, t);
-    }
-    let stop = reach(work, slots, n, k, place, inserted, i, t, width, v);
-    if stop == 0 {
-        hand_on(work, slots, n, k, slots + i, v - 1);
-        return step(work, slots, i, t);
-    }
-    carry(work, slots, i, stop, v);
-    Next {
+    let i = notes.slots + at.node;
+    let width = notes.width_of(i);
+    let Some(j) = seek(notes, sizes, change, at, width) else {
+        return step(notes, at);
+    };
+    let Some(stop) = reach(notes, sizes, change, at, width, j) else {
+        hand_on(notes, sizes, i, j);
+        return step(notes, at);
+    };
+    carry(notes, at.node, stop, j);
+    Spot {
         node: stop,
-        token: t + width,
+        token: at.token + width,
     }
 }
 
-// Goes through the k new nodes; the root first.
-fn go_through(
-    work: &mut [u8],
-    slots: usize,
-    n: usize,
-    k: usize,
-    tokens: usize,
-    place: usize,
-    removed: usize,
-    inserted: usize,
-)
-    requires { (1 ≤ n) × (n ≤ slots) × (k ≤ slots) × (slots ≤ max_slots) × (notes_size slots ≤ length work.old) × Started (nodes_in slots work.old) n tokens (starts_in slots work.old) × (place ≤ 65535) × (removed ≤ 65535) × (inserted ≤ 65535) × Rising (ends_in slots work.old) 0 n × Rising (ends_in slots work.old) slots (slots + k) × Blank (matches_in slots work.old) × Leaved (nodes_in slots work.old) (ends_in slots work.old) (widths_in slots work.old) slots (slots + k) }
-    ensures { Matches (nodes_in slots work.old) n slots k (ends_in slots work.old) (widths_in slots work.old) tokens (starts_in slots work.old) place removed inserted (matches_in slots work.new) × Few n (matches_in slots work.new) × Viewed slots work.new (nodes_in slots work.old) (ends_in slots work.old) (widths_in slots work.old) (starts_in slots work.old) (matches_in slots work.new) }
+// Goes through the new nodes; the root first.
+fn go_through(notes: &mut Notes, sizes: Sizes, change: Change)
+    requires { (1 ≤ sizes.old) × (sizes.old ≤ notes.old.slots) × (sizes.new ≤ notes.old.slots) × Started (nodes_of notes.old) sizes.old sizes.tokens (starts_of notes.old) × Rising (ends_of notes.old) 0 sizes.old × Rising (ends_of notes.old) notes.old.slots (notes.old.slots + sizes.new) × Blank (matches_of notes.old) × Leaved (nodes_of notes.old) (ends_of notes.old) (widths_of notes.old) notes.old.slots (notes.old.slots + sizes.new) }
+    ensures { Matches (nodes_of notes.old) sizes.old notes.old.slots sizes.new (ends_of notes.old) (widths_of notes.old) sizes.tokens (starts_of notes.old) change.place change.removed change.inserted (matches_of notes.new) × Few sizes.old (matches_of notes.new) × Entries notes.old notes.new }
 {
-    hand(work, slots, slots, 0);
-    let mut i: usize = 0;
-    let mut t: usize = 0;
-    while i < k {
-        let next = turn(work, slots, n, k, tokens, place, removed, inserted, i, t);
-        i = next.node;
-        t = next.token;
+    let root = notes.slots;
+    hand(notes, root, 0);
+    let mut at = Spot { node: 0, token: 0 };
+    // a `while`: a turn goes on at the next node, or behind a subtree that is carried along, which no range counts
+    while at.node < sizes.new {
+        at = turn(notes, sizes, change, at);
     }
 }
 
@@ -360,9 +322,20 @@ pub fn match_nodes(
     requires { Built rows.now (nodes_in slots work.old) n 0 × Built rows.now (nodes_in slots work.old) k slots × (trees (tree_in rows.now (nodes_in slots work.old) k slots) ≡ 1) × (1 ≤ n) × (n ≤ slots) × (k ≤ slots) × (slots ≤ max_slots) × (notes_size slots ≤ length work.old) × (place ≤ 65535) × (removed ≤ 65535) × (inserted ≤ 65535) }
     ensures { Matching rows.now (nodes_in slots work.old) n slots k place removed inserted (matches_in slots work.new) × Few n (matches_in slots work.new) × (nodes_in slots work.new ≡ nodes_in slots work.old) }
 {
-    notes::clear(work, slots);
-    measure(work, slots, 0, n, rows);
-    measure(work, slots, slots, k, rows);
-    let tokens = mark_starts(work, slots, n);
-    go_through(work, slots, n, k, tokens, place, removed, inserted);
+    let change = Change {
+        place,
+        removed,
+        inserted,
+    };
+    let mut notes = Notes::new(work, slots);
+    notes.clear();
+    measure(&mut notes, 0, n, rows);
+    measure(&mut notes, slots, k, rows);
+    let tokens = mark_starts(&mut notes, n);
+    let sizes = Sizes {
+        old: n,
+        new: k,
+        tokens,
+    };
+    go_through(&mut notes, sizes, change);
 }

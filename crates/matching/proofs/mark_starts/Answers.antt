@@ -1,17 +1,26 @@
+use Rattle.std.proofs.Common.{◌≡◌}
 use Rattle.notes.specs.Views.{length_starts}
-use Rattle.matching.specs.Finding.{started_none, started_inner, started_leaf, started_end}
-use Rattle.matching.specs.Noted.{viewed_all, starts_on, production_out}
+use Rattle.matching.specs.Finding.{started_none, started_inner, started_leaf}
+use Rattle.matching.specs.Noted.{viewed_all, production_out, starts_on}
 use borrow.Author.Rules.{rules}
 use Rattle.matching.proofs.mark_starts.Goals as goal
 
 pub loop-i-init : goal.loop-i-init
-loop-i-init c = (search rules, search rules, search rules, started_none _ _ (search rules), viewed_all _ _)
+loop-i-init c = record { few = search rules; started = started_none _ _ c.requires.1; viewed = viewed_all _ }
 
-pub loop-i-preserved-then-p-ne0 : goal.loop-i-preserved-then-p-ne0
-loop-i-preserved-then-p-ne0 c = (search rules, search rules, search rules, started_inner _ _ _ _ _ (production_out c.loop-i.invariant.4 _ _ c.production_in-p.ensures.0) (search rules) c.loop-i.invariant.3, search rules)
+pub loop-i-preserved-then-production_of-ne0 : goal.loop-i-preserved-then-production_of-ne0
+loop-i-preserved-then-production_of-ne0 c =
+    let u = c.loop-i.invariant in
+    record { few = search rules; started = started_inner _ _ _ _ _ (production_out u.viewed _ _ c.production_of.ensures.0) (search rules) u.started; viewed = u.viewed }
 
 pub loop-i-preserved : goal.loop-i-preserved
-loop-i-preserved c = (search rules, search rules, search rules, started_leaf _ _ _ _ _ _ (production_out c.loop-i.invariant.4 _ _ c.production_in-p.ensures.0) (search rules) (rw length_starts (search rules)) c.set_start.ensures.starts c.loop-i.invariant.3, starts_on c.loop-i.invariant.4 c.set_start.ensures)
+loop-i-preserved c =
+    let u = c.loop-i.invariant in
+    record {
+      few = search rules;
+      started = started_leaf _ _ _ _ _ _ (production_out u.viewed _ _ c.production_of.ensures.0) (search rules) (rw length_starts (search rules)) c.set_start.ensures.starts u.started;
+      viewed = starts_on u.viewed c.set_start.ensures;
+    }
 
 pub returns : goal.returns
-returns c = (started_end c.loop-i.invariant.3 (search rules) (search rules), c.loop-i.invariant.4)
+returns c = let q : c.loop-i.i ≡ c.args.n = search rules in (rw q at c.loop-i.invariant.started, c.loop-i.invariant.viewed)

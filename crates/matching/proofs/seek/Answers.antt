@@ -1,19 +1,24 @@
 use Rattle.notes.specs.Views.{length_matches}
-use Rattle.matching.specs.Handing.{few_set, few_set_one}
 use Rattle.matching.specs.Finding.{sourced_few}
+use Rattle.matching.specs.Handing.{few_set, few_set_one}
 use Rattle.matching.specs.Matching.{seeks_void, seeks_full, seeks_front}
 use Rattle.matching.specs.Noted.{viewed_all, matches_on}
 use borrow.Author.Rules.{rules}
 use Rattle.matching.proofs.seek.Goals as goal
 
 pub returns-then-width-eq0 : goal.returns-then-width-eq0
-returns-then-width-eq0 c = (seeks_void _ c.requires.10 (search rules), search rules, viewed_all _ _, search rules)
+returns-then-width-eq0 c = (seeks_void _ c.requires.5 (search rules), c.requires.4, viewed_all _, c.match_of.ensures.0)
 
-pub returns-then-t-place : goal.returns-then-t-place
-returns-then-t-place c = (seeks_front (search rules) c.set_match.ensures.matches, few_set _ _ c.requires.9 (rw length_matches (search rules)) (search rules) c.set_match.ensures.matches, matches_on (viewed_all _ _) c.set_match.ensures, few_set_one _ _ c.requires.9 (rw length_matches (search rules)) c.set_match.ensures.matches)
+pub returns-then-at-change : goal.returns-then-at-change
+returns-then-at-change c =
+    let h = c.set_match.ensures in
+    (seeks_front (search rules) h.matches, few_set _ _ c.requires.4 (rw length_matches (search rules)) (search rules) h.matches, matches_on (viewed_all _) h, few_set_one _ _ c.requires.4 (rw length_matches (search rules)) h.matches)
 
 pub set_match-requires-2 : goal.set_match-requires-2
-set_match-requires-2 c = let x = sourced_few c.source-v.ensures in search rules
+set_match-requires-2 c = let x = sourced_few c.source-j.ensures in search rules
 
 pub returns : goal.returns
-returns c = let x = sourced_few c.source-v.ensures in (seeks_full _ _ _ c.requires.10 (search rules) c.symbol_in-x.ensures.0 c.source-v.ensures c.set_match-2.ensures.matches, few_set _ _ c.requires.9 (rw length_matches (search rules)) (search rules) c.set_match-2.ensures.matches, matches_on (viewed_all _ _) c.set_match-2.ensures, few_set_one _ _ c.requires.9 (rw length_matches (search rules)) c.set_match-2.ensures.matches)
+returns c =
+    let x = sourced_few c.source-j.ensures in
+    let h = c.set_match-2.ensures in
+    (seeks_full _ _ _ c.requires.5 (search rules) c.symbol_of-x.ensures.0 c.source-j.ensures h.matches, few_set _ _ c.requires.4 (rw length_matches (search rules)) x h.matches, matches_on (viewed_all _) h, few_set_one _ _ c.requires.4 (rw length_matches (search rules)) h.matches)

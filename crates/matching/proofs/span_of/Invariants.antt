@@ -1,10 +1,6 @@
-use Rattle.notes.specs.Views.{nodes_in, ends_in, widths_in}
-use Rattle.matching.specs.Measure.{tree_in, Built, Measured, Hop}
-use Rattle.std.proofs.Common.{◌+◌, ◌-◌, ◌<◌}
+use Rattle.notes.specs.Lists.{nodes_of}
+use Rattle.matching.specs.Measure.{Hop}
 use Rattle.matching.proofs.span_of.Given as goal
 
 abbrev pub invariant-loop-m : goal.invariant-loop-m
-invariant-loop-m l = Built l.rows (nodes_in l.slots l.work) l.n l.base × (l.i < l.n) × Hop l.rows (nodes_in l.slots l.work) l.n l.base l.i l.k l.m l.c l.width × Measured (tree_in l.rows (nodes_in l.slots l.work) l.n l.base) l.base (l.i + 1) (ends_in l.slots l.work) (widths_in l.slots l.work)
-
-abbrev pub decreases-loop-m : goal.decreases-loop-m
-decreases-loop-m l = l.k - l.m
+invariant-loop-m l = Hop l.rows (nodes_of l.notes) l.n l.base l.i l.k l._m l.end l.width
