@@ -107,6 +107,7 @@ pub fn renew(
         (edit_of change.entry.place change.entry.removed (tokens_in change.entry.tokens.now)) tree.old
         result tree.new }
 {
-    let altered = altering::alter(language, slots, o, change, work, tree).map_err(reason_of)?;
+    let call = altering::alter(language, slots, o, change, work, tree);
+    let altered = call.map_err(reason_of)?;
     Ok(counts_of(o, altered))
 }

@@ -6,11 +6,11 @@ use Rattle.editing.proofs.renew.Goals as goal
 pub returns-in_err-altered : goal.returns-in_err-altered
 returns-in_err-altered c =
     let p = err_from_is_err_and c.from_residual.result c.from_residual.ensures.1 in
-    let e = mapped_err _ c.alter.result _ c.map_err.ensures.cases c.in_err-altered.was in
-    rw (p.1, p.2, e.2) (renews_refused c.alter.ensures.0 e.0 e.1)
+    let e = mapped_err _ c.alter-call.result _ c.map_err.ensures.cases c.in_err-altered.was in
+    rw (p.1, p.2, e.2) (renews_refused c.alter-call.ensures.0 e.0 e.1)
 
 pub counts_of-requires : goal.counts_of-requires
-counts_of-requires c = few_fit _ c.alter.ensures.1 (treed_few _ _ _ _ _ _ c.requires.2) (mapped_ok _ c.alter.result _ c.map_err.ensures.cases c.in_ok-altered.was)
+counts_of-requires c = few_fit _ c.alter-call.ensures.1 (treed_few _ _ _ _ _ _ c.requires.2) (mapped_ok _ c.alter-call.result _ c.map_err.ensures.cases c.in_ok-altered.was)
 
 pub returns : goal.returns
-returns c = renews_altered c.alter.ensures.0 _ _ _ _ c.requires.2 (mapped_ok _ c.alter.result _ c.map_err.ensures.cases c.in_ok-altered.was) c.counts_of.ensures
+returns c = renews_altered c.alter-call.ensures.0 _ _ _ _ c.requires.2 (mapped_ok _ c.alter-call.result _ c.map_err.ensures.cases c.in_ok-altered.was) c.counts_of.ensures
