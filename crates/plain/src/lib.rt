@@ -12,6 +12,7 @@ ghost use Rattle.plain.specs.Text.{text_in, parse_size};
 ghost use Rattle.plain.specs.Outcome.{Told, Ran};
 
 use grammar::Head;
+use trees::Node;
 
 pub const TOKEN_SIZE: usize = 5;
 
@@ -118,7 +119,13 @@ impl Lent<'_, '_> {
                 return Err(ParseError::Syntax(at.token, 1 << x));
             }
             let tag = base::get32(self.text, TOKEN_SIZE * at.token + 1);
-            trees::put_node(nodes, at.nodes, at.nodes + 1, x, 0, tag);
+            let leaf = Node {
+                slot: (at.nodes + 1) as u16,
+                symbol: x as u8,
+                production: 0,
+                tag: tag as u32,
+            };
+            trees::put_node(nodes, at.nodes, leaf);
             return Ok(Place {
                 nodes: at.nodes + 1,
                 top: at.top + 1,
@@ -136,7 +143,13 @@ impl Lent<'_, '_> {
         }
         let top = at.top + 1 - len;
         push(stack, top, self.rows, q - 1, len);
-        trees::put_node(nodes, at.nodes, at.nodes + 1, x, q, 0);
+        let inner = Node {
+            slot: (at.nodes + 1) as u16,
+            symbol: x as u8,
+            production: q as u8,
+            tag: 0,
+        };
+        trees::put_node(nodes, at.nodes, inner);
         Ok(Place {
             nodes: at.nodes + 1,
             top,

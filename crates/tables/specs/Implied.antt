@@ -1,5 +1,5 @@
 -- Break points from break points: one follows from those of the symbols below on either stem, so that bytes which imply themselves are the break points.
-use Rattle.std.specs.Prelude.{ℕ, zero, suc, ◌+◌, ◌-◌, ◌*◌, ◌/◌, ◌%◌, ◌≤◌, ◌<◌, ◌≡◌, length, eqb, leb}
+use Rattle.std.specs.Prelude.{ℕ, zero, suc, ◌+◌, ◌-◌, ◌*◌, ◌/◌, ◌%◌, ◌≤◌, ◌<◌, ◌≡◌, length, eqb, leb, None}
 use Rattle.std.proofs.Math.Path.{refl, ap, subst}
 use Rattle.std.proofs.Common.{sym, ◌∙◌}
 use mathlib.Core.List.{List, [], ◌∷◌, Memᴰ}
@@ -49,7 +49,7 @@ alone : {M N : ℕ} {u : List ℕ} → u ≡ N ∷ [] → (M ≡ N → ⊥) → 
 alone e f = apart e f (λ i. elim i [ ])
 
 module _ (rows : List ℕ) (head : Head) (s : List ℕ) (known : Known (grammar_in rows head) s) (ok : Prepared (grammar_in rows head))
-    (cells : List ℕ) (listed : Listed rows s head.t head.count cells 0)
+    (cells : List ℕ) (listed : Listed rows s head.t head.count cells None)
     (steps : List ℕ) (filled : (R a : ℕ) → R < head.n → a < head.t + 1 → get_or steps (R * columns + a) 0 ≡ step_of rows s cells head.t (R * columns + a)) where
   abbrev G : Grammar
   G = grammar_in rows head

@@ -1,6 +1,6 @@
 -- What is laid down are the tables of the grammar in the rows.
 use Prim.Native.Nat.{ℕ, ◌+◌, ◌*◌, ◌/◌, ◌%◌, ◌≤◌, ◌<◌}
-use Rattle.std.specs.Prelude.{◌≡◌, Bool, false, List, length, drop}
+use Rattle.std.specs.Prelude.{◌≡◌, Bool, false, List, length, drop, None}
 use Rattle.std.proofs.Math.Path.{sym}
 use Rattle.std.proofs.Common.{◌∙◌}
 use Rattle.std.proofs.Math.Logic.{by_cases}
@@ -29,7 +29,7 @@ use Rattle.tables.specs.Writing.{Laid}
 pub record Ready (rows : List ℕ) (head : Head) (s cells : List ℕ) : Type 0 where
   pub known : Known (grammar_in rows head) s
   pub prepared : Prepared (grammar_in rows head)
-  pub listed : Listed rows s head.t head.count cells 0
+  pub listed : Listed rows s head.t head.count cells None
 
 module _ (rows : List ℕ) (head : Head) (s cells : List ℕ) (ready : Ready rows head s cells) where
   abbrev G : Grammar

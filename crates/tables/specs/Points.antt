@@ -1,6 +1,6 @@
 -- The steps go down the stems, the bits are their symbols, and the entries are the break points.
 use Prim.Native.Nat.{ℕ, zero, suc, ◌+◌, ◌-◌, ◌*◌, ◌/◌, ◌%◌, ◌^◌, ◌≤◌, ◌<◌}
-use Rattle.std.specs.Prelude.{◌≡◌, refl, ◌↔◌, ◌⊎◌, eqb, Option, unwrap_or}
+use Rattle.std.specs.Prelude.{◌≡◌, refl, ◌↔◌, ◌⊎◌, eqb, Option, unwrap_or, None}
 use Rattle.std.proofs.Math.Path.{ap}
 use Rattle.std.proofs.Common.{◌∙◌}
 use Rattle.std.proofs.Math.Bool.{true, false}
@@ -46,7 +46,7 @@ record Led (G : Grammar) (a : ℕ) (xs : List ℕ) (x : ℕ) : Type 0 where
   begins : Begin G a (x ∷ [])
 
 module _ (rows : List ℕ) (head : Head) (s : List ℕ) (known : Known (grammar_in rows head) s) (ok : Prepared (grammar_in rows head))
-    (cells : List ℕ) (listed : Listed rows s head.t head.count cells 0) where
+    (cells : List ℕ) (listed : Listed rows s head.t head.count cells None) where
   abbrev G : Grammar
   G = grammar_in rows head
 

@@ -24,6 +24,7 @@ ghost use Rattle.walks.specs.Closing.{Reads};
 
 use area::Area;
 use grammar::Head;
+use trees::Node;
 use words::WORDS;
 
 // A frame's slot and parent, two bytes each, and its symbols, eight.
@@ -115,7 +116,13 @@ fn visit(area: Area, rules: &Rules, due: Siblings, w: &mut [u8], i: usize) -> Op
     let p = usize::from(area.bytes[at + trees::PRODUCTION_PLACE]);
     let g = base::four(area.bytes, at + trees::TAG_PLACE);
     let kids = rules.kin(x, p, g)?;
-    trees::put_node(w, i, s, x, p, g);
+    let node = Node {
+        slot: s as u16,
+        symbol: x as u8,
+        production: p as u8,
+        tag: g as u32,
+    };
+    trees::put_node(w, i, node);
     w[mark] = 1;
     let body = match kids {
         Kids::Leaf => 0,
