@@ -20,15 +20,14 @@ use Rattle.plain.specs.Tokens.{token_size, Sentence, length_token_bytes, tokens_
 use Rattle.plain.specs.Text.{text_in}
 use Rattle.notes.specs.Views.{nodes_in, with_part, nodes_in_lem}
 use Rattle.plain.specs.Machine.{Ground, Done}
-use Rattle.plain.specs.Outcome.{Ran, is_wrong, is_full}
-use Rattle.plain.specs.declared.Parsed.{Parsed}
+use Rattle.plain.specs.Outcome.{Ran}
+use Rattle.plain.specs.declared.ParseError.{ParseError}
 use Rattle.edits.specs.Keeping.{Edit, edit_of}
 use Rattle.matching.specs.Finding.{Numbers}
 use Rattle.sentences.specs.Forming.{NewSentence}
 use Rattle.sentences.specs.Behind.{Fronted}
 use Rattle.sentences.specs.Grounding.{part_of, ground_of, parses_of, whole_of}
-use Rattle.altering.specs.declared.ParseError.TheVariants.{Syntax, NoRoom}
-use Rattle.altering.specs.Outcome.{renewed, Alters, AltersTree, Few}
+use Rattle.altering.specs.Outcome.{renewed, alters_refused, Alters, AltersTree, Few}
 use Rattle.altering.specs.Treed.{Treed, leaves, treed_fits}
 use Rattle.altering.specs.Settling.{Both}
 use Rattle.altering.specs.Parts.{nodes_drop}
@@ -82,20 +81,12 @@ module _ (rows : List ℕ) (head : Head) {S : ℕ} {tree w : List ℕ} {o : ℕ}
       course_ground x = rw (text_is w₁ S r lp) (ground_of rows head p h.valid old_leaves s a x)
 
       module _ (l : limit ≡ suc S) where
-        pub course_syntax : {b : List ℕ} {v : Parsed} (i x : ℕ) → Ran G S (text_in S r lent_part) r b v → v ≡ Parsed.Syntax i x → AltersTree G S e tree (Err (Syntax i x)) tree
-        course_syntax i x u q =
+        pub course_refused : {b : List ℕ} (x : ParseError) → Ran G S (text_in S r lent_part) r b (Err x) → AltersTree G S e tree (Err x) tree
+        course_refused x u =
             record {
               all = λ v.
                   let z : yield h.valid.tree ≡ yield v.tree = ap yield (valid_one h.valid v) in
-                  Alters.wrong_syntax (rw z at (parses_of rows head p h.valid old_leaves s a l (rw (text_is w₁ S r lp) at (is_wrong i x u q))));
-            }
-
-        pub course_room : {b : List ℕ} {v : Parsed} → Ran G S (text_in S r lent_part) r b v → v ≡ Parsed.NoRoom → AltersTree G S e tree (Err NoRoom) tree
-        course_room u q =
-            record {
-              all = λ v.
-                  let z : yield h.valid.tree ≡ yield v.tree = ap yield (valid_one h.valid v) in
-                  Alters.no_room (rw z at (parses_of rows head p h.valid old_leaves s a l (rw (text_is w₁ S r lp) at (is_full u q))));
+                  alters_refused x (rw z at (parses_of rows head p h.valid old_leaves s a l (rw (text_is w₁ S r lp) at u)));
             }
 
         module _ (room : place + removed ≤ get16 tree tokens_place) {b : List ℕ} (k : ℕ) (d₀ : Done G S (text_in S r lent_part) r k b) (long : node_size * S ≤ length w) where

@@ -15,7 +15,7 @@ ghost use Rattle.altering.specs.Outcome.{tokens_in, AltersTree, Few};
 ghost use Rattle.altering.specs.Altering.{Doubled, SettledAll};
 
 use grammar::Head;
-use plain::Parsed;
+use plain::ParseError;
 
 // A grammar in the rows, and its tables.
 #[derive(Clone, Copy)]
@@ -38,13 +38,6 @@ pub struct Change<'a> {
 pub struct Altered {
     pub total: usize,
     pub kept: usize,
-}
-
-// Why the plain parse refuses a sentence.
-#[derive(Clone, Copy, Debug, PartialEq, Eq)]
-pub enum ParseError {
-    Syntax(usize, u32),
-    NoRoom,
 }
 
 // Gives the k nodes of the new tree their slots and lays them out; how many are kept. They stand in the work area behind room for `slots` nodes of the old tree, which has o;
@@ -94,29 +87,23 @@ pub fn alter(
 {
     let Language { rows, head, tables } = language;
     let text = trees::NODE_SIZE * (slots + slots);
-    let m = change.tokens.len() / plain::TOKEN_SIZE;
     let r = sentences::new_sentence(
         work,
         o,
         change.place,
         change.removed,
         change.tokens,
-        m,
         slots + 1,
         text,
     );
-    let total = match plain::parse(
+    let total = plain::parse(
         r,
         tables,
         rows,
         head,
         slots,
         &mut work[trees::NODE_SIZE * slots..],
-    ) {
-        Parsed::Accepted(total) => total,
-        Parsed::Syntax(token, expected) => return Err(ParseError::Syntax(token, expected)),
-        Parsed::NoRoom => return Err(ParseError::NoRoom),
-    };
+    )?;
     let kept = settle(rows, slots, o, total, change, work, tree);
     Ok(Altered { total, kept })
 }

@@ -1,5 +1,5 @@
 -- After the walk: whether the header says what was found, whether the other slots are zero, and what the reader then answers.
-use Rattle.std.specs.Prelude.{ℕ, ◌+◌, ◌-◌, ◌*◌, ◌≤◌, ◌<◌, Bool, true, false, ◌≡◌, refl, List, take, drop, replicate, Option, Some, None, MatchOption}
+use Rattle.std.specs.Prelude.{ℕ, min, ◌+◌, ◌-◌, ◌*◌, ◌≤◌, ◌<◌, Bool, true, false, ◌≡◌, refl, List, take, drop, replicate, Option, Some, None, MatchOption}
 use Rattle.std.proofs.Common.{sym, ap, ◌∙◌, get_or-take, get_or-drop, take-add, drop_at, length-take-le, ⊎_elim, arith, below_more, ext_get_or}
 use Rattle.std.proofs.Math.ListN.{length, length-take, length-drop}
 use Rattle.std.proofs.Math.Logic.{by_cases}
@@ -156,7 +156,7 @@ visited_told m s n r l h = record { yes = λ t. record { each = λ d o. sym (par
 
     same : VisitedFrom m s n → take (s + n - s) (drop s m) ≡ replicate n 1
     same v =
-        let e : length (take (s + n - s) (drop s m)) ≡ length (replicate n 1) = let f : length (take (s + n - s) (drop s m)) ≡ min (s + n - s) (length (drop s m)) = length-take (s + n - s) (drop s m) in f ∙ omega (arith, length-drop s m, length-replicate {A = ℕ} n 1) in
+        let e : length (take (s + n - s) (drop s m)) ≡ length (replicate n 1) = let f : length (take (s + n - s) (drop s m)) ≡ min (s + n - s) (length (drop s m)) = length-take (s + n - s) (drop s m) in omega (arith, f, length-drop s m, length-replicate {A = ℕ} n 1) in
         ext_get_or 0 (take (s + n - s) (drop s m)) (replicate n 1) e (λ d o. let w : d < n = omega (arith, o, length-take (s + n - s) (drop s m)) in part d w ∙ v.each d w ∙ sym (get_or-replicate n d 1 0 w))
 
 -- the r slots from s on are slots of the area, and clear
