@@ -16,6 +16,7 @@ use grammar::Head;
 pub const CELLS_SIZE: usize = grammar::MAX_NONTERMINALS * grammar::COLUMNS;
 
 // Whether a is in the set m.
+#[tactic(auto, unfolding(crate::specs::Hits::hasb))]
 pub fn has(m: u32, a: usize) -> bool
     requires { a < columns }
     ensures { result ≡ hasb m a }
@@ -49,6 +50,7 @@ fn body_word(rows: &[u8], p: usize, sets: &[u32; sets::SETS_SIZE]) -> u32
 }
 
 // The lookaheads that predict the production in row p, whose left side is m.
+#[tactic(auto, using(crate::specs::Hits::predictors_is))]
 fn predictors(rows: &[u8], p: usize, m: usize, sets: &[u32; sets::SETS_SIZE]) -> u32
     requires { (m ≡ left_at rows.now p) × (m < symbol_space) }
     ensures { result ≡ predictorsm rows.now sets.now p }
