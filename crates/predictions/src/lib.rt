@@ -25,6 +25,7 @@ pub fn has(m: u32, a: usize) -> bool
 }
 
 // The lowest nonterminal that is not both productive and reachable.
+#[tactic(auto, using(crate::specs::Idle::idling))]
 pub fn useless(sets: &[u32; sets::SETS_SIZE], head: Head) -> Option<usize>
     requires { (head.t ≤ max_terminals) × (head.n ≤ max_nonterminals) }
     ensures { Idle sets.now head.t head.n result }
@@ -37,7 +38,8 @@ pub fn useless(sets: &[u32; sets::SETS_SIZE], head: Head) -> Option<usize>
     None
 }
 
-// The word of the body of the production in row p.
+// The word of the body of the production in row p. A loop of its own: crate sets goes the same way, but writes its words at each symbol.
+#[tactic(auto, using(crate::specs::Hits::wording))]
 fn body_word(rows: &[u8], p: usize, sets: &[u32; sets::SETS_SIZE]) -> u32
     ensures { result ≡ suffix sets.now (body_at rows.now p) }
 {
@@ -60,6 +62,7 @@ fn predictors(rows: &[u8], p: usize, m: usize, sets: &[u32; sets::SETS_SIZE]) ->
 }
 
 // Lists a production in the row at `at`; whether a cell listed another.
+#[tactic(auto, using(crate::specs::Listing::marking))]
 fn list_row(w: u32, new: u8, at: usize, cells: &mut [u8; CELLS_SIZE]) -> bool
     requires { at + columns ≤ cells_size }
     ensures { Marked w new at columns cells.old cells.new result }
@@ -75,6 +78,7 @@ fn list_row(w: u32, new: u8, at: usize, cells: &mut [u8; CELLS_SIZE]) -> bool
 }
 
 // Lists every production in the cells, which are zero at first; the lowest nonterminal in conflict.
+#[tactic(auto, using(crate::specs::Listing::listing))]
 pub fn predict(
     rows: &[u8],
     head: Head,
