@@ -1,5 +1,5 @@
 use Rattle.std.proofs.Common.{◌∙◌, sym, arith}
-use Rattle.predictions.specs.Listing.{marked_none, marked_yes, marked_no, marked_all}
+use Rattle.predictions.specs.Listing.{marked_yes, marked_no}
 use Rattle.predictions.proofs.list_row.Goals as goal
 use Rattle.predictions.proofs.list_row.Goals.{then-has, else-has}
 

@@ -1,6 +1,6 @@
-use Rattle.std.proofs.Common.{◌≡◌, Some, unwrap_or, min, arith}
+use Rattle.std.proofs.Common.{◌≡◌, Some, unwrap_or, min}
 use borrow.Author.Rules.{rules}
-use Rattle.predictions.specs.Listing.{listed_none, listed_quiet, listed_loud, listed_all}
+use Rattle.predictions.specs.Listing.{listed_none, listed_quiet, listed_loud}
 use Rattle.predictions.proofs.predict.Goals as goal
 use Rattle.predictions.proofs.predict.Goals.{then-list_row, else-list_row}
 

@@ -1,6 +1,5 @@
 use Rattle.std.proofs.Common.{arith}
-use borrow.Author.Rules.{rules}
-use Rattle.predictions.specs.Idle.{busy_first, busy_next, idle_some, idle_none}
+use Rattle.predictions.specs.Idle.{busy_next, idle_none}
 use Rattle.predictions.proofs.useless.Goals as goal
 
 pub returns-else-sets-x-ne3 : goal.returns-else-sets-x-ne3

@@ -1,6 +1,6 @@
 use Rattle.std.proofs.Common.{arith}
 use borrow.Author.Rules.{rules}
-use Rattle.sets.specs.Sweeps.{tokens_none, tokens_more, begin_all}
+use Rattle.sets.specs.Sweeps.{tokens_more, begin_all}
 use Rattle.sets.proofs.begin.Goals as goal
 
 pub returns-2 : goal.returns-2

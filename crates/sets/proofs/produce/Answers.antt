@@ -1,6 +1,6 @@
 use Rattle.std.proofs.Common.{refl}
 use borrow.Author.Rules.{rules}
-use Rattle.sets.specs.Sweeps.{grew_none, grew_join, at_end, at_turn, at_start}
+use Rattle.sets.specs.Sweeps.{grew_join, at_turn, at_start}
 use Rattle.sets.proofs.produce.Goals as goal
 
 pub loop-j-preserved : goal.loop-j-preserved

@@ -1,8 +1,7 @@
 use Rattle.std.proofs.Common.{◌≡◌, true, false, arith}
-use borrow.Author.Rules.{rules}
 use Rattle.sets.specs.Words.{swept}
-use Rattle.sets.specs.Sweeps.{grew_none, grew_join, sweep_none, sweep_back, sweep_front, sweep_all}
-use Rattle.sets.specs.Rounds.{rounded_start, rounded_turn, settled_turn, rounds_less}
+use Rattle.sets.specs.Sweeps.{sweep_all}
+use Rattle.sets.specs.Rounds.{rounded_turn, settled_turn, rounds_less}
 use Rattle.sets.proofs.settle.Goals as goal
 use Rattle.sets.proofs.settle.Goals.{After-front}
 
