@@ -125,6 +125,7 @@ fn read_productions(
 {
     let mut rest = &image[HEAD_SIZE..];
     let mut offset: usize = HEAD_SIZE;
+    // A `while`: document 01 names the form, the part after each record handed on as a slice part.
     while !rest.is_empty() {
         if head.count == MAX_PRODUCTIONS {
             return Err(BadRecord { offset });

@@ -52,6 +52,8 @@ module _ (s : List ℕ) (t : ℕ) where
   pub idle_none : (n x : ℕ) → x ≡ t + n → BusyTo s t x → Idle s t n None
   idle_none n x e h = none (rw e at h)
 
+pub ruleset idling = (busy_first, busy_next, idle_some, idle_none)
+
 -- ---- what that says of a grammar
 
 module _ {G : Grammar} {s : List ℕ} (k : Known G s) (f : WellFormed G) where

@@ -96,6 +96,8 @@ module _ (w new at : ℕ) (s : List ℕ) where
   pub marked_all : (s' : List ℕ) (k m : ℕ) (c : Bool) → k ≡ m → Marked w new at k s s' c → Marked w new at m s s' c
   marked_all s' k m c e h = rw e at h
 
+pub ruleset marking = (marked_none, marked_yes, marked_no, marked_all)
+
 -- ---- all productions
 
 -- a cell of row M and column a after the first k productions: one that a predicts, or 0 where there is none
@@ -230,3 +232,5 @@ module _ (rows s : List ℕ) (t : ℕ) where
 
 pub listed_all : (rows s : List ℕ) (t k n : ℕ) (cells : List ℕ) (low : Option ℕ) → k ≡ n → Listed rows s t k cells low → Listed rows s t n cells low
 listed_all rows s t k n cells low e h = rw e at h
+
+pub ruleset listing = (listed_none, listed_quiet, listed_loud, listed_all)

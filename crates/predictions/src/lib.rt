@@ -16,6 +16,7 @@ use grammar::Head;
 pub const CELLS_SIZE: usize = grammar::MAX_NONTERMINALS * grammar::COLUMNS;
 
 // Whether a is in the set m.
+#[tactic(auto, unfolding(crate::specs::Hits::hasb))]
 pub fn has(m: u32, a: usize) -> bool
     requires { a < columns }
     ensures { result ≡ hasb m a }
@@ -24,6 +25,7 @@ pub fn has(m: u32, a: usize) -> bool
 }
 
 // The lowest nonterminal that is not both productive and reachable.
+#[tactic(auto, using(crate::specs::Idle::idling))]
 pub fn useless(sets: &[u32; sets::SETS_SIZE], head: Head) -> Option<usize>
     requires { (head.t ≤ max_terminals) × (head.n ≤ max_nonterminals) }
     ensures { Idle sets.now head.t head.n result }
@@ -36,7 +38,8 @@ pub fn useless(sets: &[u32; sets::SETS_SIZE], head: Head) -> Option<usize>
     None
 }
 
-// The word of the body of the production in row p.
+// The word of the body of the production in row p. A loop of its own: crate sets goes the same way, but writes its words at each symbol.
+#[tactic(auto, using(crate::specs::Hits::wording))]
 fn body_word(rows: &[u8], p: usize, sets: &[u32; sets::SETS_SIZE]) -> u32
     ensures { result ≡ suffix sets.now (body_at rows.now p) }
 {
@@ -49,6 +52,7 @@ fn body_word(rows: &[u8], p: usize, sets: &[u32; sets::SETS_SIZE]) -> u32
 }
 
 // The lookaheads that predict the production in row p, whose left side is m.
+#[tactic(auto, using(crate::specs::Hits::predictors_is))]
 fn predictors(rows: &[u8], p: usize, m: usize, sets: &[u32; sets::SETS_SIZE]) -> u32
     requires { (m ≡ left_at rows.now p) × (m < symbol_space) }
     ensures { result ≡ predictorsm rows.now sets.now p }
@@ -58,6 +62,7 @@ fn predictors(rows: &[u8], p: usize, m: usize, sets: &[u32; sets::SETS_SIZE]) ->
 }
 
 // Lists a production in the row at `at`; whether a cell listed another.
+#[tactic(auto, using(crate::specs::Listing::marking))]
 fn list_row(w: u32, new: u8, at: usize, cells: &mut [u8; CELLS_SIZE]) -> bool
     requires { at + columns ≤ cells_size }
     ensures { Marked w new at columns cells.old cells.new result }
@@ -73,6 +78,7 @@ fn list_row(w: u32, new: u8, at: usize, cells: &mut [u8; CELLS_SIZE]) -> bool
 }
 
 // Lists every production in the cells, which are zero at first; the lowest nonterminal in conflict.
+#[tactic(auto, using(crate::specs::Listing::listing))]
 pub fn predict(
     rows: &[u8],
     head: Head,

@@ -24,6 +24,7 @@ use Rattle.sets.specs.Growth.{total, Within, within_refl, within_trans, within_r
 use Rattle.sets.specs.Facts.{Sound, is_first, is_follow, is_made, is_reached, begins, sound_raised, sound_produced}
 use Rattle.sets.specs.Still.{Closed, within_swept, closed_swept, turned_low}
 use Rattle.sets.specs.Bounds.{Bounded, bounded_swept, bounded_total}
+use Rattle.sets.specs.Sweeps.{sweep_none, sweep_back, sweep_front, grew_none, grew_join}
 use Rattle.sets.specs.Known.{Known}
 
 -- ---- a sweep is sound
@@ -87,6 +88,8 @@ module _ (rows : List ℕ) (count : ℕ) where
         let r = rounded_turn in
         let q = bounded_total s'' (r.within.long ∙ n) (r.bounded b) in
         omega arith
+
+pub ruleset settling = (rounded_start, sweep_none, sweep_back, sweep_front, grew_none, grew_join)
 
 -- ---- the beginning is sound, and has what needs no production
 

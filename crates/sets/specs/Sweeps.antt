@@ -110,6 +110,8 @@ module _ (rows : List ℕ) (p m : ℕ) (s₀ : List ℕ) where
         grew_join (grew_join g u.1) v.1,
       )
 
+pub ruleset passing = (at_end, at_turn, at_start, grew_none, grew_join)
+
 -- ---- a sweep
 
 module _ (rows : List ℕ) (back : Bool) (count : ℕ) (s₀ : List ℕ) where
@@ -160,3 +162,5 @@ pub begin_all : (z s₁ s₀ s : List ℕ) (k t start : ℕ) → k ≡ t → z �
 unfolding begun
 begin_all z s₁ s₀ s k t start l e f g h =
     rw l at h ∙ ap (tokens t) (g ∙ ap (λ (k : List ℕ). raised k (marks + start) 2) (f ∙ ap (λ (k : List ℕ). raised k (follows + start) 1) e))
+
+pub ruleset beginning = (tokens_none, tokens_more, begin_all)

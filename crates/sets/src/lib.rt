@@ -63,6 +63,7 @@ fn step(sets: &mut [u32; SETS_SIZE], m: usize, x: usize, tail: u32) -> bool
 }
 
 // The production in row p: its body from the end to the start, then its left side.
+#[tactic(auto, using(crate::specs::Sweeps::passing))]
 fn produce(rows: &[u8], p: usize, sets: &mut [u32; SETS_SIZE]) -> bool
     ensures { (sets.new ≡ produced_at rows.now p sets.old) × Grew sets.old sets.new result }
 {
@@ -84,6 +85,7 @@ fn produce(rows: &[u8], p: usize, sets: &mut [u32; SETS_SIZE]) -> bool
 }
 
 // What needs no production: each terminal begins itself and is productive, the end mark follows the start symbol, which is reachable.
+#[tactic(auto, using(crate::specs::Sweeps::beginning))]
 fn begin(t: usize, start: usize, sets: &mut [u32; SETS_SIZE])
     requires { (sets.old ≡ zeros sets_size) × (t ≤ max_terminals) × (start < symbol_space) }
     ensures { sets.new ≡ begun t start }
@@ -97,10 +99,12 @@ fn begin(t: usize, start: usize, sets: &mut [u32; SETS_SIZE])
 }
 
 // Sweeps over the productions from the back and from the front, until a round changes nothing.
+#[tactic(auto, using(crate::specs::Rounds::settling))]
 fn settle(rows: &[u8], count: usize, sets: &mut [u32; SETS_SIZE])
     requires { count ≤ max_productions }
     ensures { Settled rows.now count sets.old sets.new }
 {
+    // A `loop`: no range counts the rounds.
     'rounds: loop {
         let mut grew = false;
         'back: for p in (0..count).rev() {

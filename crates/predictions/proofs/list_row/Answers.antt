@@ -1,10 +1,7 @@
 use Rattle.std.proofs.Common.{◌∙◌, sym, arith}
-use Rattle.predictions.specs.Listing.{marked_none, marked_yes, marked_no, marked_all}
+use Rattle.predictions.specs.Listing.{marked_yes, marked_no}
 use Rattle.predictions.proofs.list_row.Goals as goal
 use Rattle.predictions.proofs.list_row.Goals.{then-has, else-has}
-
-pub loop-a-init : goal.loop-a-init
-loop-a-init c = marked_none _ _ _ _
 
 pub loop-a-preserved : goal.loop-a-preserved
 loop-a-preserved c =
@@ -12,6 +9,3 @@ loop-a-preserved c =
       | then-has w ↦ rw (w.cells-is, w.crowded-is) (marked_yes _ _ _ _ _ _ _ c.loop-a.invariant (omega arith) (sym c.has.ensures ∙ w.if-has.true))
       | else-has w ↦ rw (w.cells-is, w.crowded-is) (marked_no _ _ _ _ _ _ _ c.loop-a.invariant (sym c.has.ensures ∙ w.if-has.false))
     ]
-
-pub returns : goal.returns
-returns c = marked_all _ _ _ _ _ _ _ _ (omega arith) c.loop-a.invariant

@@ -1,6 +1,6 @@
-use Rattle.std.proofs.Common.{◌≡◌, Some, unwrap_or, min, arith}
+use Rattle.std.proofs.Common.{◌≡◌, Some, unwrap_or, min}
 use borrow.Author.Rules.{rules}
-use Rattle.predictions.specs.Listing.{listed_none, listed_quiet, listed_loud, listed_all}
+use Rattle.predictions.specs.Listing.{listed_none, listed_quiet, listed_loud}
 use Rattle.predictions.proofs.predict.Goals as goal
 use Rattle.predictions.proofs.predict.Goals.{then-list_row, else-list_row}
 
@@ -14,6 +14,3 @@ loop-p-preserved c =
       | then-list_row w ↦ let e : c.if-list_row.low ≡ Some (min (unwrap_or c.loop-p.low c.left_at-m.result) c.left_at-m.result) = cc in rw e (listed_loud _ _ _ _ _ _ _ _ _ _ c.left_at-m.ensures.0 c.predictors-w.ensures (search rules) (search rules) c.loop-p.invariant c.list_row.ensures w.if-list_row.true)
       | else-list_row w ↦ rw w.low-is (listed_quiet _ _ _ _ _ _ _ _ _ _ c.left_at-m.ensures.0 c.predictors-w.ensures (search rules) (search rules) c.loop-p.invariant c.list_row.ensures w.if-list_row.false)
     ]
-
-pub returns : goal.returns
-returns c = listed_all _ _ _ _ _ _ _ (omega arith) c.loop-p.invariant

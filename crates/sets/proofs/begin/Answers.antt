@@ -1,20 +1,7 @@
 use Rattle.std.proofs.Common.{arith}
 use borrow.Author.Rules.{rules}
-use Rattle.sets.specs.Sweeps.{tokens_none, tokens_more, begin_all}
+use Rattle.sets.specs.Sweeps.{tokens_more, begin_all}
 use Rattle.sets.proofs.begin.Goals as goal
-
-pub loop-a-init : goal.loop-a-init
-loop-a-init c = record { near = search rules; done = tokens_none _ }
-
-pub loop-a-preserved : goal.loop-a-preserved
-loop-a-preserved c =
-    record {
-      near = search rules;
-      done = tokens_more _ _ _ _ _ (search rules) (search rules) c.loop-a.invariant.done c.raise-in-loop-a.ensures.0 c.raise-in-loop-a-2.ensures.0;
-    }
-
-pub returns : goal.returns
-returns c = begin_all _ _ _ _ _ _ _ (omega arith) c.requires.0 c.raise.ensures.0 c.raise-2.ensures.0 c.loop-a.invariant.done
 
 pub returns-2 : goal.returns-2
 returns-2 c =

@@ -1,17 +1,7 @@
 use Rattle.std.proofs.Common.{refl}
 use borrow.Author.Rules.{rules}
-use Rattle.sets.specs.Sweeps.{grew_none, grew_join, at_end, at_turn, at_start}
+use Rattle.sets.specs.Sweeps.{grew_join, at_turn, at_start}
 use Rattle.sets.proofs.produce.Goals as goal
-
-pub loop-j-init : goal.loop-j-init
-loop-j-init c =
-    record {
-      left = c.left_at-m.ensures.0;
-      small = c.left_at-m.ensures.1;
-      within = search rules;
-      at = at_end _ _ _ _ _ c.length_at-j.ensures.0;
-      grew = grew_none _;
-    }
 
 pub loop-j-preserved : goal.loop-j-preserved
 loop-j-preserved c =

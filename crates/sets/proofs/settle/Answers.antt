@@ -1,8 +1,7 @@
 use Rattle.std.proofs.Common.{◌≡◌, true, false, arith}
-use borrow.Author.Rules.{rules}
 use Rattle.sets.specs.Words.{swept}
-use Rattle.sets.specs.Sweeps.{grew_none, grew_join, sweep_none, sweep_back, sweep_front, sweep_all}
-use Rattle.sets.specs.Rounds.{rounded_start, rounded_turn, settled_turn, rounds_less}
+use Rattle.sets.specs.Sweeps.{sweep_all}
+use Rattle.sets.specs.Rounds.{rounded_turn, settled_turn, rounds_less}
 use Rattle.sets.proofs.settle.Goals as goal
 use Rattle.sets.proofs.settle.Goals.{After-front}
 
@@ -12,29 +11,6 @@ back_done c = sweep_all _ _ _ _ _ _ (omega arith) c.back.invariant.swept
 
 front_done : (c : After-front) → c.front.sets ≡ swept c.args.rows.now false c.args.count c.args.count c.back.sets
 front_done c = sweep_all _ _ _ _ _ _ (omega arith) c.front.invariant.swept
-
-pub rounds-init : goal.rounds-init
-rounds-init c = rounded_start _ _ _
-
-pub back-init : goal.back-init
-back-init c = record { swept = sweep_none _ _ _ _ _ (omega arith); grew = grew_none _ }
-
-pub back-preserved : goal.back-preserved
-back-preserved c =
-    record {
-      swept = sweep_back _ _ _ _ _ _ (search rules) (search rules) c.back.invariant.swept c.produce-grew.ensures.0;
-      grew = grew_join c.back.invariant.grew c.produce-grew.ensures.1;
-    }
-
-pub front-init : goal.front-init
-front-init c = record { swept = sweep_none _ _ _ _ _ (omega arith); grew = λ s h. h }
-
-pub front-preserved : goal.front-preserved
-front-preserved c =
-    record {
-      swept = sweep_front _ _ _ _ _ _ c.front.invariant.swept c.produce-grew-in-front.ensures.0;
-      grew = λ s h. grew_join (c.front.invariant.grew s h) c.produce-grew-in-front.ensures.1;
-    }
 
 pub returns-then-not-grew : goal.returns-then-not-grew
 returns-then-not-grew c =
