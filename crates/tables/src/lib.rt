@@ -80,7 +80,7 @@ impl Shape {
     }
 }
 
-// Whether the symbol x is in the mask.
+// Whether the symbol x is in the mask. `predictions::has` is the same of 32 bits, and promises its type.
 fn in_mask(mask: u64, x: usize) -> bool
     requires { x < symbol_space }
     ensures { result ≡ hasb mask x }
@@ -114,21 +114,23 @@ struct Stems<'a> {
 impl Stems<'_> {
     // The step of cell i.
     fn step_at(&self, i: usize) -> usize
+        requires { i < predictions_size }
         ensures is { result ≡ step_at self.now.steps.now i }
         ensures small { result < symbol_space }
     {
-        let steps = self.steps;
-        base::byte_at(steps, i) % grammar::SYMBOL_SPACE
+        usize::from(self.steps[i]) % grammar::SYMBOL_SPACE
     }
 
-    // Down from x, by the steps.
+    // Down from x, by the steps; 0 beyond them.
     fn next(&self, a: usize, x: usize) -> usize
         requires ahead { a < columns }
         requires symbol { x < symbol_space }
         ensures is { result ≡ nextm self.now.steps.now self.now.shape.t a x }
         ensures small { result < symbol_space }
     {
-        self.step_at(x.saturating_sub(self.shape.first) * grammar::COLUMNS + a)
+        let steps = self.steps;
+        let row = x.saturating_sub(self.shape.first);
+        base::byte_at(steps, row * grammar::COLUMNS + a) % grammar::SYMBOL_SPACE
     }
 
     // The symbols of the stem from x to a, as bits.
@@ -329,11 +331,13 @@ impl Stems<'_> {
     }
 
     // Whether the bytes are break points that imply themselves, row by row.
-    fn holds_breaks(&self, live: &[u16], w: &[u8]) -> bool
-        requires long { length w.now ≡ breaks_size }
-        requires listed { Live self.now.steps.now self.now.shape.n (self.now.shape.t + 1) self.now.shape.n 0 live.now (length live.now) }
+    fn holds_breaks(&self, w: &[u8]) -> bool
+        requires { length w.now ≡ breaks_size }
         ensures { Tells (Broken (implied_of self.now.sets.now self.now.steps.now self.now.shape.t w.now) self.now.shape.n (self.now.shape.t + 1) self.now.shape.n w.now) result }
     {
+        let mut cells = [0u16; PREDICTIONS_SIZE];
+        let k = self.list_live(&mut cells);
+        let live = &cells[..k];
         let mut row = [0u8; ROW_SIZE];
         for r in 0..self.shape.n {
             self.imply_row(live, r, w, &mut row);
@@ -360,15 +364,12 @@ impl Stems<'_> {
     }
 
     // Whether the bytes are the predictions in the cells, then break points that imply themselves.
-    fn holds(&self, cells: &[u8; PREDICTIONS_SIZE], live: &[u16], tables: &[u8]) -> bool
-        requires long { length tables.now ≡ tables_size }
-        requires listed { Live self.now.steps.now self.now.shape.n (self.now.shape.t + 1) self.now.shape.n 0 live.now (length live.now) }
+    fn holds(&self, cells: &[u8; PREDICTIONS_SIZE], tables: &[u8]) -> bool
+        requires { length tables.now ≡ tables_size }
         ensures { Tells (Laid cells.now (implied_of self.now.sets.now self.now.steps.now self.now.shape.t (drop predictions_size tables.now)) self.now.shape.n (self.now.shape.t + 1) tables.now) result }
     {
-        if base::same(&tables[..PREDICTIONS_SIZE], cells) {
-            return self.holds_breaks(live, &tables[PREDICTIONS_SIZE..]);
-        }
-        false
+        base::same(&tables[..PREDICTIONS_SIZE], cells)
+            && self.holds_breaks(&tables[PREDICTIONS_SIZE..])
     }
 }
 
@@ -426,7 +427,5 @@ pub fn is_prepared(
         steps: &steps,
         shape,
     };
-    let mut live = [0u16; PREDICTIONS_SIZE];
-    let k = stems.list_live(&mut live);
-    stems.holds(cells, &live[..k], tables)
+    stems.holds(cells, tables)
 }
