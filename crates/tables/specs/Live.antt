@@ -1,6 +1,6 @@
 -- The cells that have a step, listed once, and a row that is written at these cells only.
-use Rattle.std.specs.Prelude.{ℕ, ◌+◌, ◌*◌, ◌≤◌, ◌<◌, ◌≡◌, refl, List, length, get_or, set, take}
-use Rattle.std.proofs.Common.{sym, ap, ◌∙◌, length-set, get_or-set_same, get_or-set_other, get_or-take, arith}
+use Rattle.std.specs.Prelude.{ℕ, ◌+◌, ◌*◌, ◌≤◌, ◌<◌, ◌≡◌, refl, List, length, get_or, set}
+use Rattle.std.proofs.Common.{sym, ap, ◌∙◌, length-set, get_or-set_same, get_or-set_other, arith}
 use Rattle.std.proofs.Math.Logic.{by_cases}
 use Rattle.std.proofs.Math.Decide.{ℕ_discrete}
 use Rattle.grammar.specs.Limits.{max_nonterminals, columns}
@@ -37,9 +37,6 @@ module _ (steps : List ℕ) (n c : ℕ) where
   among_more : (live : List ℕ) (k i v : ℕ) → Among live k i → Among (set live k v) (k + 1) i
   among_more live k i v h = record { place = h.place; low = omega (arith, h.low); is = get_or-set_other live k h.place v 0 (omega (arith, h.low)) ∙ h.is }
 
-  among_first : (live : List ℕ) (k i : ℕ) → Among live k i → Among (take k live) k i
-  among_first live k i h = record { place = h.place; low = h.low; is = get_or-take k live h.place 0 h.low ∙ h.is }
-
   -- the next cell has no step, or is put behind the first k
   pub live_passed : (q b : ℕ) (live : List ℕ) (k : ℕ) → step_at steps (q * columns + b) ≡ 0 → Live steps n c q b live k → Live steps n c q (b + 1) live k
   live_passed q b live k z h =
@@ -75,16 +72,6 @@ module _ (steps : List ℕ) (n c : ℕ) where
             (λ e. h.done Q a (omega arith) y f);
         part = λ a x. absurd (omega arith);
       }
-
-  -- the first k alone
-  pub live_first : (q b : ℕ) (live : List ℕ) (k m : ℕ) → m ≡ k → k ≤ length live → Live steps n c q b live k → Live steps n c q b (take k live) m
-  live_first q b live k m e l h =
-      rw e (record {
-        few = h.few;
-        cell = λ j x. rw (get_or-take k live j 0 x) (h.cell j x);
-        done = λ Q a x y f. among_first live k (Q * columns + a) (h.done Q a x y f);
-        part = λ a x f. among_first live k (q * columns + a) (h.part a x f);
-      })
 
   pub live_below : (live : List ℕ) (k j : ℕ) → n ≤ max_nonterminals → c ≤ columns → j < k → Live steps n c n 0 live k → get_or live j 0 < predictions_size
   live_below live k j l m x h = let p = h.cell j x in omega (arith, p.is, p.low, p.small)

@@ -30,11 +30,14 @@ pub const TABLES_SIZE: usize = PREDICTIONS_SIZE + BREAKS_SIZE;
 
 const NO_BREAK: usize = 255;
 
-// How many terminals and nonterminals a grammar has: of a grid, a row for each nonterminal and a column for each lookahead.
+// How many terminals and nonterminals a grammar has: of a grid, a row for each nonterminal and a column for each lookahead. `first` is the
+// first nonterminal, and so how many lookaheads there are.
 #[derive(Clone, Copy)]
 struct Shape {
     t: usize,
+    first: usize,
     n: usize,
+    ghost behind_terminals: { first ≡ t + 1 },
     ghost few_terminals: { t ≤ max_terminals },
     ghost few_nonterminals: { n ≤ max_nonterminals },
 }
@@ -47,15 +50,37 @@ impl Shape {
         ensures { (d : T) (f : ℕ → T) → ((i : ℕ) (v : T) → i < self.n * columns → F.post cell i v → v ≡ f i) → Grid d f (self.t + 1) self.n self.n 0 w.old w.new }
     {
         for q in 0..self.n {
-            for a in 0..self.t + 1 {
+            for a in 0..self.first {
                 let i = q * grammar::COLUMNS + a;
                 w[i] = cell(i);
             }
         }
     }
+
+    // The symbol below that of cell i's row on its stem to cell i's lookahead, or 0.
+    fn step_of(
+        self,
+        rows: &[u8],
+        sets: &[u32; SETS_SIZE],
+        cells: &[u8; PREDICTIONS_SIZE],
+        i: usize,
+    ) -> u8
+        requires { i < predictions_size }
+        ensures { result ≡ step_of rows.now sets.now cells.now self.t i }
+    {
+        let a = i % grammar::COLUMNS;
+        if a == 0 {
+            return 0;
+        }
+        if predictions::has(sets[self.first + i / grammar::COLUMNS], a) {
+            let p = usize::from(cells[i]).saturating_sub(1);
+            return lead(rows, p, a, sets).unwrap_or(0) as u8;
+        }
+        0
+    }
 }
 
-// Whether the symbol x is in the mask.
+// Whether the symbol x is in the mask. `predictions::has` is the same of 32 bits, and promises its type.
 fn in_mask(mask: u64, x: usize) -> bool
     requires { x < symbol_space }
     ensures { result ≡ hasb mask x }
@@ -78,29 +103,6 @@ fn lead(rows: &[u8], p: usize, a: usize, sets: &[u32; SETS_SIZE]) -> Option<usiz
     None
 }
 
-// The symbol below that of cell i's row on its stem to cell i's lookahead, or 0.
-fn step_of(
-    rows: &[u8],
-    sets: &[u32; SETS_SIZE],
-    cells: &[u8; PREDICTIONS_SIZE],
-    t: usize,
-    i: usize,
-) -> u8
-    requires few { t ≤ max_terminals }
-    requires within { i < predictions_size }
-    ensures { result ≡ step_of rows.now sets.now cells.now t i }
-{
-    let a = i % grammar::COLUMNS;
-    if a == 0 {
-        return 0;
-    }
-    if predictions::has(sets[t + 1 + i / grammar::COLUMNS], a) {
-        let p = usize::from(cells[i]).saturating_sub(1);
-        return lead(rows, p, a, sets).unwrap_or(0) as u8;
-    }
-    0
-}
-
 // What the break points follow from: the words of the sets, and the steps down the stems.
 #[derive(Clone, Copy)]
 struct Stems<'a> {
@@ -112,21 +114,23 @@ struct Stems<'a> {
 impl Stems<'_> {
     // The step of cell i.
     fn step_at(&self, i: usize) -> usize
+        requires { i < predictions_size }
         ensures is { result ≡ step_at self.now.steps.now i }
         ensures small { result < symbol_space }
     {
-        let steps = self.steps;
-        base::byte_at(steps, i) % grammar::SYMBOL_SPACE
+        usize::from(self.steps[i]) % grammar::SYMBOL_SPACE
     }
 
-    // Down from x, by the steps.
+    // Down from x, by the steps; 0 beyond them.
     fn next(&self, a: usize, x: usize) -> usize
         requires ahead { a < columns }
         requires symbol { x < symbol_space }
         ensures is { result ≡ nextm self.now.steps.now self.now.shape.t a x }
         ensures small { result < symbol_space }
     {
-        self.step_at(x.saturating_sub(self.shape.t + 1) * grammar::COLUMNS + a)
+        let steps = self.steps;
+        let row = x.saturating_sub(self.shape.first);
+        base::byte_at(steps, row * grammar::COLUMNS + a) % grammar::SYMBOL_SPACE
     }
 
     // The symbols of the stem from x to a, as bits.
@@ -139,7 +143,7 @@ impl Stems<'_> {
         let mut acc = 0;
         for _k in 0..grammar::SYMBOL_SPACE {
             acc |= 1 << x;
-            if x <= self.shape.t {
+            if x < self.shape.first {
                 return acc;
             }
             x = self.next(a, x);
@@ -154,7 +158,7 @@ impl Stems<'_> {
     {
         self.bits(
             i % grammar::COLUMNS,
-            self.shape.t + 1 + i / grammar::COLUMNS,
+            self.shape.first + i / grammar::COLUMNS,
         )
     }
 
@@ -217,10 +221,10 @@ impl Stems<'_> {
         requires within { i < predictions_size }
         ensures { result ≡ entry_of self.now.sets.now self.now.steps.now masks.now self.now.shape.t r i }
     {
-        let t = self.shape.t;
+        let first = self.shape.first;
         self.point(
-            t + 1 + r,
-            t + 1 + i / grammar::COLUMNS,
+            first + r,
+            first + i / grammar::COLUMNS,
             i % grammar::COLUMNS,
             masks[i],
         ) as u8
@@ -246,12 +250,12 @@ impl Stems<'_> {
         ensures is { result ≡ down_of self.now.steps.now self.now.shape.t w.now r q a }
         ensures small { result < 256 }
     {
-        let t = self.shape.t;
+        let first = self.shape.first;
         let x = self.step_at(r * grammar::COLUMNS + a);
-        if x <= t {
+        if x < first {
             return x;
         }
-        base::byte_at(w, (x - t - 1) * ROW_SIZE + q * grammar::COLUMNS + a)
+        base::byte_at(w, (x - first) * ROW_SIZE + q * grammar::COLUMNS + a)
     }
 
     // The same where a begins both symbols.
@@ -262,16 +266,16 @@ impl Stems<'_> {
         ensures is { result ≡ meet_of self.now.steps.now self.now.shape.t w.now r q a }
         ensures small { result < 256 }
     {
-        let t = self.shape.t;
+        let first = self.shape.first;
         if r == q {
-            return t + 1 + r;
+            return first + r;
         }
         let y = self.step_at(q * grammar::COLUMNS + a);
-        if y <= t {
+        if y < first {
             return self.down(r, q, a, w);
         }
-        if base::byte_at(w, r * ROW_SIZE + (y - t - 1) * grammar::COLUMNS + a) == t + 1 + r {
-            return t + 1 + r;
+        if base::byte_at(w, r * ROW_SIZE + (y - first) * grammar::COLUMNS + a) == first + r {
+            return first + r;
         }
         self.down(r, q, a, w)
     }
@@ -286,11 +290,11 @@ impl Stems<'_> {
         if self.step_at(i) == 0 {
             return 0;
         }
-        let t = self.shape.t;
+        let first = self.shape.first;
         let q = i / grammar::COLUMNS;
         let a = i % grammar::COLUMNS;
         if self.step_at(r * grammar::COLUMNS + a) == 0 {
-            return self.behind(t + 1 + r, t + 1 + q, a);
+            return self.behind(first + r, first + q, a);
         }
         self.meet(r, q, a, w)
     }
@@ -302,7 +306,7 @@ impl Stems<'_> {
     {
         let mut k = 0;
         for q in 0..self.shape.n {
-            for a in 0..self.shape.t + 1 {
+            for a in 0..self.shape.first {
                 let i = q * grammar::COLUMNS + a;
                 if self.step_at(i) != 0 {
                     live[k] = i as u16;
@@ -327,11 +331,13 @@ impl Stems<'_> {
     }
 
     // Whether the bytes are break points that imply themselves, row by row.
-    fn holds_breaks(&self, live: &[u16], w: &[u8]) -> bool
-        requires long { length w.now ≡ breaks_size }
-        requires listed { Live self.now.steps.now self.now.shape.n (self.now.shape.t + 1) self.now.shape.n 0 live.now (length live.now) }
+    fn holds_breaks(&self, w: &[u8]) -> bool
+        requires { length w.now ≡ breaks_size }
         ensures { Tells (Broken (implied_of self.now.sets.now self.now.steps.now self.now.shape.t w.now) self.now.shape.n (self.now.shape.t + 1) self.now.shape.n w.now) result }
     {
+        let mut cells = [0u16; PREDICTIONS_SIZE];
+        let k = self.list_live(&mut cells);
+        let live = &cells[..k];
         let mut row = [0u8; ROW_SIZE];
         for r in 0..self.shape.n {
             self.imply_row(live, r, w, &mut row);
@@ -358,15 +364,12 @@ impl Stems<'_> {
     }
 
     // Whether the bytes are the predictions in the cells, then break points that imply themselves.
-    fn holds(&self, cells: &[u8; PREDICTIONS_SIZE], live: &[u16], tables: &[u8]) -> bool
-        requires long { length tables.now ≡ tables_size }
-        requires listed { Live self.now.steps.now self.now.shape.n (self.now.shape.t + 1) self.now.shape.n 0 live.now (length live.now) }
+    fn holds(&self, cells: &[u8; PREDICTIONS_SIZE], tables: &[u8]) -> bool
+        requires { length tables.now ≡ tables_size }
         ensures { Tells (Laid cells.now (implied_of self.now.sets.now self.now.steps.now self.now.shape.t (drop predictions_size tables.now)) self.now.shape.n (self.now.shape.t + 1) tables.now) result }
     {
-        if base::same(&tables[..PREDICTIONS_SIZE], cells) {
-            return self.holds_breaks(live, &tables[PREDICTIONS_SIZE..]);
-        }
-        false
+        base::same(&tables[..PREDICTIONS_SIZE], cells)
+            && self.holds_breaks(&tables[PREDICTIONS_SIZE..])
     }
 }
 
@@ -383,10 +386,11 @@ pub fn write_tables(
 {
     let shape = Shape {
         t: head.t,
+        first: head.t + 1,
         n: head.n,
     };
     let mut steps = [0u8; PREDICTIONS_SIZE];
-    shape.fill(&mut steps, |i| step_of(rows, sets, cells, shape.t, i));
+    shape.fill(&mut steps, |i| shape.step_of(rows, sets, cells, i));
     let stems = Stems {
         sets,
         steps: &steps,
@@ -413,16 +417,15 @@ pub fn is_prepared(
     }
     let shape = Shape {
         t: head.t,
+        first: head.t + 1,
         n: head.n,
     };
     let mut steps = [0u8; PREDICTIONS_SIZE];
-    shape.fill(&mut steps, |i| step_of(rows, sets, cells, shape.t, i));
+    shape.fill(&mut steps, |i| shape.step_of(rows, sets, cells, i));
     let stems = Stems {
         sets,
         steps: &steps,
         shape,
     };
-    let mut live = [0u16; PREDICTIONS_SIZE];
-    let k = stems.list_live(&mut live);
-    stems.holds(cells, &live[..k], tables)
+    stems.holds(cells, tables)
 }

@@ -13,12 +13,12 @@ loop-r-preserved c =
     record {
       quiet = quiet_more _ _ _ _ _ _ _ _ _ c.imply_row.ensures;
       blank = blank_more _ _ _ _ _ (omega arith) i.blank c.imply_row.ensures;
-      held = held_more _ _ _ _ _ _ _ c.requires.long (omega arith) (omega arith) (omega arith) i.blank c.imply_row.ensures (c.same.ensures.yes c.if-not-same.false) i.held;
+      held = held_more _ _ _ _ _ _ _ c.requires (omega arith) (omega arith) (omega arith) i.blank c.imply_row.ensures (c.same.ensures.yes c.if-not-same.false) i.held;
     }
 
 pub returns-then-not-same : goal.returns-then-not-same
 returns-then-not-same c =
-    held_not _ _ _ _ _ _ _ c.requires.long (omega arith) (omega arith) (omega arith) c.loop-r.invariant.blank c.imply_row.ensures (c.same.ensures.no c.if-not-same.true)
+    held_not _ _ _ _ _ _ _ c.requires (omega arith) (omega arith) (omega arith) c.loop-r.invariant.blank c.imply_row.ensures (c.same.ensures.no c.if-not-same.true)
 
 pub returns : goal.returns
-returns c = held_all _ _ _ _ _ _ _ c.requires.long (omega arith) (omega arith) (omega arith) c.loop-r.invariant.held c.all_zero.ensures (search rules)
+returns c = held_all _ _ _ _ _ _ _ c.requires (omega arith) (omega arith) (omega arith) c.loop-r.invariant.held c.all_zero.ensures (search rules)
