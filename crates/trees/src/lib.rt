@@ -278,6 +278,7 @@ fn put_header(area: &mut [u8], root: u16, used: u16, tokens: u16)
 }
 
 // Writes the whole area of the tree whose n nodes are listed: the last node first, so that a node's children stand before it.
+// The number stands beside the bytes: the theorems of the callers speak of `nodes_from nodes n 0`, and other bytes follow.
 pub fn lay_out(nodes: &[u8], n: usize, rows: &[u8], slots: usize, area: &mut [u8])
     requires { (slots ≤ max_slots) × (n ≤ slots) × (node_size * n ≤ length nodes.now) × (length area.old ≡ area_size slots) × Spread slots (nodes_from nodes.now n 0) × Fed (arity_in rows.now) (nodes_from nodes.now n 0) }
     ensures { Area slots (build (arity_in rows.now) (nodes_from nodes.now n 0)) area.new }
