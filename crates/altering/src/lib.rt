@@ -68,7 +68,7 @@ pub fn alter(
     ensures { AltersTree (grammar_in rows.now head) slots (edit_of place removed (tokens_from tokens.now m 0)) tree.old result tree.new × Few o result }
 {
     let text = trees::NODE_SIZE * (slots + slots);
-    let r = sentences::new_sentence(work, o, place, removed, tokens, m, slots + 1, text);
+    let r = sentences::new_sentence(work, o, place, removed, tokens, slots + 1, text);
     match plain::parse(
         r,
         tables,

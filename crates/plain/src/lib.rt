@@ -11,6 +11,7 @@ ghost use Rattle.plain.specs.Text.{text_in, parse_size};
 ghost use Rattle.plain.specs.Outcome.{Told, Ran, Turned};
 
 use grammar::Head;
+use trees::Node;
 
 pub const TOKEN_SIZE: usize = 5;
 
@@ -124,7 +125,16 @@ fn step(
     if x <= head.t {
         if x == a {
             let tag = base::get32(&work[front..back], TOKEN_SIZE * k + 1);
-            trees::put_node(work, o, o + 1, x, 0, tag);
+            trees::put_node(
+                work,
+                o,
+                Node {
+                    slot: (o + 1) as u16,
+                    symbol: x as u8,
+                    production: 0,
+                    tag: tag as u32,
+                },
+            );
             return Turn::Go(p + 1, k + 1);
         }
         return Turn::Over(Parsed::Syntax(k, 1 << x));
@@ -139,7 +149,16 @@ fn step(
     }
     let top = p + 1 - len;
     push(work, top, rows, q - 1, len);
-    trees::put_node(work, o, o + 1, x, q, 0);
+    trees::put_node(
+        work,
+        o,
+        Node {
+            slot: (o + 1) as u16,
+            symbol: x as u8,
+            production: q as u8,
+            tag: 0,
+        },
+    );
     Turn::Go(top, k)
 }
 

@@ -21,6 +21,7 @@ ghost use Rattle.walks.specs.Walking.{Wandered};
 ghost use Rattle.walks.specs.Closing.{Reads};
 
 use grammar::Head;
+use trees::Node;
 
 // A frame's slot and parent, two bytes each, and its symbols, eight.
 const FRAME_SIZE: usize = 12;
@@ -161,7 +162,16 @@ fn visit(
         let g = base::four(area, at + trees::TAG_PLACE);
         match kin(rows, words, t, count, x, p, g) {
             Kids::Leaf => {
-                trees::put_node(w, i, s, y, 0, g);
+                trees::put_node(
+                    w,
+                    i,
+                    Node {
+                        slot: s as u16,
+                        symbol: y as u8,
+                        production: 0,
+                        tag: g as u32,
+                    },
+                );
                 w[mark] = 1;
                 if hangs(area, s, par, 0) {
                     return Kids::Leaf;
@@ -169,7 +179,16 @@ fn visit(
                 return Kids::Unfit;
             }
             Kids::Body(body) => {
-                trees::put_node(w, i, s, y, p, 0);
+                trees::put_node(
+                    w,
+                    i,
+                    Node {
+                        slot: s as u16,
+                        symbol: y as u8,
+                        production: p as u8,
+                        tag: 0,
+                    },
+                );
                 w[mark] = 1;
                 if hangs(area, s, par, body) {
                     return Kids::Body(body);
