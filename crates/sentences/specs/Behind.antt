@@ -1,5 +1,5 @@
 -- Tokens written behind the nodes, in the same bytes: the nodes are what they were.
-use Prim.Native.Nat.{ℕ, ◌-◌, ◌*◌, ◌≤◌, ◌<◌}
+use Prim.Native.Nat.{ℕ, ◌-◌, ◌*◌, ◌/◌, ◌≤◌, ◌<◌}
 use Rattle.std.specs.Prelude.{◌≡◌}
 use Rattle.std.proofs.Math.Path.{ap}
 use Rattle.std.proofs.Common.{◌∙◌, take_at}
@@ -40,22 +40,30 @@ module _ (w : List ℕ) {front : List ℕ} (text : ℕ) (behind : List ℕ) (e :
   pub drop_left : drop text (front ++ behind) ≡ behind
   drop_left = drop_at front behind text front_long
 
-  module _ (n : ℕ) (fits : node_size * n ≤ text) where
-    leaves_front : (i : ℕ) → leaves_from front n i ≡ leaves_from w n i
+  -- n nodes of those in front
+  module _ {nodes : List ℕ} (n : ℕ) (fits : node_size * n ≤ text) (is : nodes ≡ take (node_size * n) front) where
+    count : length nodes / node_size ≡ n
+    count = let q = ap length is ∙ length-take-le (node_size * n) front (omega (arith, front_long)) in omega arith
+
+    nodes_each : (j : ℕ) → j < node_size * n → byte_at nodes j ≡ byte_at w j
+    nodes_each j m = ap (λ (u : List ℕ). byte_at u j) is ∙ get_or-take (node_size * n) front j 0 m ∙ front_each j (omega arith)
+
+    leaves_front : (i : ℕ) → leaves_from nodes (length nodes / node_size) i ≡ leaves_from w n i
     unfolding leaves_from
-    leaves_front i = ap leaves_of (nodes_kept w front (n - i) i (λ j x y. front_each j (omega arith)))
+    leaves_front i = rw count (ap leaves_of (nodes_kept w nodes (n - i) i (λ j x y. nodes_each j (omega arith))))
 
     -- the new sentence
-    pub formed_left : {place removed m limit r : ℕ} {b out : List ℕ} → out ≡ drop text w → NewSentence front n place removed b m limit out behind r
+    pub formed_left : {place removed m limit r : ℕ} {b out : List ℕ} → out ≡ drop text w → NewSentence nodes (length nodes / node_size) place removed b m limit out behind r
         → NewSentence w n place removed b m limit (drop text w) (drop text (front ++ behind)) r
     formed_left o h =
-        let q : nodes_from front n 0 ≡ nodes_from w n 0 = nodes_kept w front n 0 (λ j x y. front_each j (omega arith)) in
-        rw drop_left (record { added = rw (q, o) at h.added })
+        let q : nodes_from nodes n 0 ≡ nodes_from w n 0 = nodes_kept w nodes n 0 (λ j x y. nodes_each j (omega arith)) in
+        rw drop_left (record { added = rw (count, q, o) at h.added })
 
     -- the leaves' tokens, copied to the beginning of other bytes
-    pub gave_left : {from out part : List ℕ} {end i j k : ℕ} → Gave front n 0 from 0 end i j behind → k ≡ token_size * j → k ≤ length behind → part ≡ take k behind → Gave w n 0 out 0 end i j (part ++ drop k out)
+    pub gave_left : {from out part : List ℕ} {end i j k : ℕ} → Gave nodes (length nodes / node_size) 0 from 0 end i j behind → k ≡ token_size * j → k ≤ length behind → part ≡ take k behind
+        → Gave w n 0 out 0 end i j (part ++ drop k out)
     gave_left {from} {out} {part} {end} {i} {j} {k} g q room c =
-        let v : List Token = take (end - 0) (leaves_from front n 0) in
+        let v : List Token = take (end - 0) (leaves_from nodes (length nodes / node_size) 0) in
         let u : behind ≡ token_bytes v ++ drop (token_size * j) from = g.added.is in
         let s : part ≡ token_bytes v = c ∙ rw (q, u) (take_at (token_bytes v) (drop (token_size * j) from) (token_size * j) (omega (arith, length_token_bytes v, g.added.count))) in
         let a : Added v out (part ++ drop k out) 0 j = record { is = rw (s, q); count = g.added.count } in

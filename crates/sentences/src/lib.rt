@@ -2,7 +2,7 @@
 // They are put together in the work area, behind the nodes. The tokens stand behind the nodes, in the same bytes.
 #![tactic(auto)]
 
-ghost use Rattle.std.specs.Prelude.{◌≡◌, ℕ, ◌+◌, ◌-◌, ◌*◌, ◌≤◌, ◌∷◌, length, take, drop};
+ghost use Rattle.std.specs.Prelude.{◌≡◌, ℕ, ◌+◌, ◌-◌, ◌*◌, ◌/◌, ◌≤◌, ◌∷◌, length, take, drop};
 ghost use Rattle.base.specs.Bytes.{le_bytes};
 ghost use Rattle.base.specs.Blocks.{copied};
 ghost use Rattle.trees.specs.Coded.{node_size};
@@ -38,11 +38,12 @@ fn put_token(text: &mut [u8], j: usize, leaf: Node)
     text[at..at + plain::TOKEN_SIZE].copy_from_slice(&token_bytes(leaf));
 }
 
-// Writes the tokens of the leaves among n nodes, from node `from` on: the first one as token `at`, the last one before token `end`.
-fn give(nodes: &[u8], n: usize, from: usize, text: &mut [u8], at: usize, end: usize) -> Reached
-    requires { (from ≤ n) × (at ≤ end) × (node_size * n ≤ length nodes.now) × (token_size * end ≤ length text.old) }
-    ensures { Gave nodes.now n from text.old at end result.node result.token text.new × (result.node ≤ n) × (result.token ≤ end) }
+// Writes the tokens of the nodes' leaves, from node `from` on: the first one as token `at`, the last one before token `end`.
+fn give(nodes: &[u8], from: usize, text: &mut [u8], at: usize, end: usize) -> Reached
+    requires { (from ≤ length nodes.now / node_size) × (at ≤ end) × (token_size * end ≤ length text.old) }
+    ensures { Gave nodes.now (length nodes.now / node_size) from text.old at end result.node result.token text.new × (result.node ≤ length nodes.now / node_size) × (result.token ≤ end) }
 {
+    let n = nodes.len() / trees::NODE_SIZE;
     let mut token = at;
     for node in from..n {
         if token == end {
@@ -58,10 +59,11 @@ fn give(nodes: &[u8], n: usize, from: usize, text: &mut [u8], at: usize, end: us
 }
 
 // The node behind k leaves, from node `from` on.
-fn skip(nodes: &[u8], n: usize, from: usize, k: usize) -> usize
-    requires { (from ≤ n) × (node_size * n ≤ length nodes.now) }
-    ensures { Skipped nodes.now n from k result 0 × (result ≤ n) }
+fn skip(nodes: &[u8], from: usize, k: usize) -> usize
+    requires { from ≤ length nodes.now / node_size }
+    ensures { Skipped nodes.now (length nodes.now / node_size) from k result 0 × (result ≤ length nodes.now / node_size) }
 {
+    let n = nodes.len() / trees::NODE_SIZE;
     let mut left = k;
     for i in from..n {
         if left == 0 {
@@ -99,10 +101,11 @@ pub fn new_sentence(
     ensures { ((m : ℕ) → length tokens.now ≡ token_size * m → NewSentence work.old n place removed tokens.now m limit (drop text work.old) (drop text work.new) result) × Fronted text work.old work.new × (result ≤ limit) }
 {
     let (nodes, text) = work.split_at_mut(text);
-    let before = give(nodes, n, 0, text, 0, place.min(limit));
+    let nodes = &nodes[..trees::NODE_SIZE * n];
+    let before = give(nodes, 0, text, 0, place.min(limit));
     let next = put_tokens(text, before.token, tokens, limit);
-    let node = skip(nodes, n, before.node, removed);
-    let after = give(nodes, n, node, text, next, limit);
+    let node = skip(nodes, before.node, removed);
+    let after = give(nodes, node, text, next, limit);
     after.token
 }
 
@@ -112,7 +115,7 @@ pub fn give_out(work: &mut [u8], n: usize, text: usize, tokens: usize, output: &
     ensures { Gave work.old n 0 output.old 0 tokens result.node result.token output.new }
 {
     let (nodes, room) = work.split_at_mut(text);
-    let reached = give(nodes, n, 0, room, 0, tokens);
+    let reached = give(&nodes[..trees::NODE_SIZE * n], 0, room, 0, tokens);
     let size = plain::TOKEN_SIZE * reached.token;
     output[..size].copy_from_slice(&room[..size]);
     reached

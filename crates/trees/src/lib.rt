@@ -119,12 +119,6 @@ pub fn slot_of(nodes: &[u8], i: usize) -> usize
     usize::from(node_at(nodes, i).slot)
 }
 
-pub fn tag_of(nodes: &[u8], i: usize) -> usize
-    ensures { (result ≡ (node_at nodes.now i).tag) × (result < tag_space) }
-{
-    node_at(nodes, i).tag as usize
-}
-
 // Writes `src` from `at` on.
 fn put_bytes(w: &mut [u8], at: usize, src: &[u8])
     requires { at + length src.now ≤ length w.old }
@@ -234,18 +228,20 @@ fn lay_node(node: Node, rows: &[u8], head: u16, area: &mut [u8])
     requires { (slot_size * node.slot + slot_size ≤ length area.old) × Ready (arity_in rows.now) node head area.old }
     ensures { Lays (arity_in rows.now) node head area.old area.new }
 {
-    if node.production == 0 {
-        put_slot(area, node, 0, head);
-        return;
-    }
-    let inner = Node { tag: 0, ..node };
-    let k = grammar::length_at(rows, usize::from(node.production) - 1);
-    if k == 0 {
-        put_slot(area, inner, 0, head);
-        return;
-    }
-    let next = adopt(area, node.slot, head, k);
-    put_slot(area, inner, head, next);
+    let (k, tag) = if node.production == 0 {
+        (0, node.tag)
+    } else {
+        (
+            grammar::length_at(rows, usize::from(node.production) - 1),
+            0,
+        )
+    };
+    let (first, next) = if k == 0 {
+        (0, head)
+    } else {
+        (head, adopt(area, node.slot, head, k))
+    };
+    put_slot(area, Node { tag, ..node }, first, next);
 }
 
 fn header_bytes(root: u16, used: u16, tokens: u16) -> [u8; HEADER_SIZE]
@@ -282,6 +278,7 @@ fn put_header(area: &mut [u8], root: u16, used: u16, tokens: u16)
 }
 
 // Writes the whole area of the tree whose n nodes are listed: the last node first, so that a node's children stand before it.
+// The number stands beside the bytes: the theorems of the callers speak of `nodes_from nodes n 0`, and other bytes follow.
 pub fn lay_out(nodes: &[u8], n: usize, rows: &[u8], slots: usize, area: &mut [u8])
     requires { (slots ≤ max_slots) × (n ≤ slots) × (node_size * n ≤ length nodes.now) × (length area.old ≡ area_size slots) × Spread slots (nodes_from nodes.now n 0) × Fed (arity_in rows.now) (nodes_from nodes.now n 0) }
     ensures { Area slots (build (arity_in rows.now) (nodes_from nodes.now n 0)) area.new }
