@@ -40,10 +40,10 @@ pub const WALK_SIZE: usize = trees::NODE_SIZE * trees::MAX_SLOTS
     + 1;
 
 // The rows of a grammar with the words of its productions, and what its head says.
-#[derive(Drop)]
+#[derive(Clone, Copy)]
 struct Rules<'a> {
     rows: &'a [u8],
-    words: [usize; WORDS],
+    words: &'a [usize; WORDS],
     head: Head,
 }
 
@@ -72,7 +72,7 @@ struct Walk {
 impl<'a> Rules<'a> {
     // The children of a node with symbol x, production p and tag g, or that there is no such node.
     fn kin(&self, x: usize, p: usize, g: usize) -> Option<Kids>
-        requires { Worded self.now.rows.now self.now.head.count self.now.words × (x < 256) × (p < 256) }
+        requires { Worded self.now.rows.now self.now.head.count self.now.words.now × (x < 256) × (p < 256) }
         ensures { Kin self.now.rows.now self.now.head.t self.now.head.count x p g result }
     {
         if p == 0 {
@@ -99,7 +99,7 @@ fn marks_at(slots: usize) -> usize
 
 // Visits the first of the siblings that are due: writes it as node i and marks it. Its links are looked at last: what was written for a slot that is unfit is not read.
 fn visit(area: Area, rules: &Rules, due: Siblings, w: &mut [u8], i: usize) -> Option<Kids>
-    requires { Worded rules.now.rows.now rules.now.head.count rules.now.words × (walk_size area.slots ≤ length w.old) × (i ≤ area.slots) × (due.parent < 65536) }
+    requires { Worded rules.now.rows.now rules.now.head.count rules.now.words.now × (walk_size area.slots ≤ length w.old) × (i ≤ area.slots) × (due.parent < 65536) }
     ensures { Visited rules.now.rows.now rules.now.head.t rules.now.head.count area.entry.slots area.entry.bytes.now due.slot due.parent (due.symbols % 64) w.old i w.new result }
 {
     let s = due.slot;
@@ -112,10 +112,11 @@ fn visit(area: Area, rules: &Rules, due: Siblings, w: &mut [u8], i: usize) -> Op
         return None;
     }
     let at = trees::SLOT_SIZE * s;
-    let p = usize::from(area.bytes[at + trees::PRODUCTION_PLACE]);
+    let both = base::two(area.bytes, at + trees::SYMBOL_PLACE);
+    let p = both / 256;
     let g = base::four(area.bytes, at + trees::TAG_PLACE);
     let kids = rules.kin(x, p, g)?;
-    trees::put_node(w, i, s, x, p, g);
+    trees::put_node(w, i, s, both % 256, p, g);
     w[mark] = 1;
     let body = match kids {
         Kids::Leaf => 0,
@@ -157,7 +158,7 @@ fn fresh(w: &mut [u8], slots: usize)
 
 // Walks the area from its root, and writes the nodes that it visits. The symbols that are due at slot s and at its siblings behind it are one number.
 fn wander(area: Area, rules: &Rules, w: &mut [u8]) -> Option<Walk>
-    requires { Worded rules.now.rows.now rules.now.head.count rules.now.words × (walk_size area.slots ≤ length w.old) × (rules.now.head.start < symbol_space) }
+    requires { Worded rules.now.rows.now rules.now.head.count rules.now.words.now × (walk_size area.slots ≤ length w.old) × (rules.now.head.start < symbol_space) }
     ensures { Wandered rules.now.rows.now rules.now.head area.entry.slots area.entry.bytes.now w.new result }
 {
     fresh(w, area.slots);
@@ -220,9 +221,11 @@ pub fn read_tree(
     ensures { Reads (grammar_in rows.now head) slots area.now work.new result }
 {
     let area = Area { bytes: area, slots };
+    let mut words = [0; WORDS];
+    words::fill_words(rows, head.count, &mut words);
     let rules = Rules {
         rows,
-        words: words::words_of(rows, head.count),
+        words: &words,
         head,
     };
     let found = wander(area, &rules, work)?;

@@ -14,19 +14,17 @@ returns-then-w-mark-ne0 c =
     ]
 
 pub returns-in_err-kids : goal.returns-in_err-kids
-returns-in_err-kids c = rw c.from_residual.ensures (visited_unfit _ _ _ _ _ _ _ _ _ _ _ c.marks_at.ensures c.if-area-s.false _ c.four-g.ensures.0 _ (rw c.from-p.ensures at c.kin.ensures) c.in_err-kids.was)
+returns-in_err-kids c = rw c.from_residual.ensures (visited_unfit _ _ _ _ _ _ _ _ _ _ _ c.marks_at.ensures c.if-area-s.false _ _ (record { small = c.args.area.known }) c.two-both.ensures.0 c.four-g.ensures.0 _ c.kin.ensures c.in_err-kids.was)
 
 pub returns : goal.returns
 returns c =
-    let k = rw c.from-p.ensures at c.kin.ensures in
     let f = c.looks.ensures.yes (search rules) in
-    let put = rw c.from-p.ensures at c.put_node.ensures in
     rw c.then_some.ensures
     (elim c.match-kids.branch [
       | in-Leaf w ↦
-          visited_hung _ _ _ _ _ _ _ _ _ _ _ c.marks_at.ensures c.if-area-s.false _ c.four-g.ensures.0 _ k c.if-w-mark-ne0.false f c.four-g.ensures.1 _ (c.in_ok-kids.was ∙ ap Some (sym w.kids-is)) _ 1
-          (taken_leaf _ _ _ (ap Some (w.kids-is ∙ w.in-Leaf.is)) w.body-is refl) _ c.hangs.ensures _ _ put refl
+          visited_hung _ _ _ _ _ _ _ _ _ _ _ c.marks_at.ensures c.if-area-s.false _ _ (record { small = c.args.area.known }) c.two-both.ensures.0 c.four-g.ensures.0 _ c.kin.ensures c.if-w-mark-ne0.false f c.four-g.ensures.1 _ (c.in_ok-kids.was ∙ ap Some (sym w.kids-is)) _ 1
+          (taken_leaf _ _ _ (ap Some (w.kids-is ∙ w.in-Leaf.is)) w.body-is refl) _ c.hangs.ensures _ _ c.put_node.ensures refl
       | in-Body w ↦
-          visited_hung _ _ _ _ _ _ _ _ _ _ _ c.marks_at.ensures c.if-area-s.false _ c.four-g.ensures.0 _ k c.if-w-mark-ne0.false f c.four-g.ensures.1 _ (c.in_ok-kids.was ∙ ap Some (w.in-Body.is ∙ sym w.kids-is)) _ 0
-          (taken_body _ _ _ _ (ap Some w.kids-is) w.body-is refl) _ c.hangs.ensures _ _ put refl
+          visited_hung _ _ _ _ _ _ _ _ _ _ _ c.marks_at.ensures c.if-area-s.false _ _ (record { small = c.args.area.known }) c.two-both.ensures.0 c.four-g.ensures.0 _ c.kin.ensures c.if-w-mark-ne0.false f c.four-g.ensures.1 _ (c.in_ok-kids.was ∙ ap Some (w.in-Body.is ∙ sym w.kids-is)) _ 0
+          (taken_body _ _ _ _ (ap Some w.kids-is) w.body-is refl) _ c.hangs.ensures _ _ c.put_node.ensures refl
     ])
