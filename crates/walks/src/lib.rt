@@ -115,14 +115,19 @@ fn visit(area: Area, rules: &Rules, due: Siblings, w: &mut [u8], i: usize) -> Op
     let both = base::two(area.bytes, at + trees::SYMBOL_PLACE);
     let p = both / 256;
     let g = base::four(area.bytes, at + trees::TAG_PLACE);
-    let kids = rules.kin(x, p, g)?;
-    trees::put_node(w, i, s, both % 256, p, g);
-    w[mark] = 1;
-    let body = match kids {
-        Kids::Leaf => 0,
-        Kids::Body(b) => b,
-    };
-    area.hangs(s, due.parent, body).then_some(kids)
+    // Each arm writes the node: written once for both, the arms part again behind it, and read back takes a fourth longer.
+    match rules.kin(x, p, g)? {
+        Kids::Leaf => {
+            trees::put_node(w, i, s, both % 256, p, g);
+            w[mark] = 1;
+            area.hangs(s, due.parent, 0).then_some(Kids::Leaf)
+        }
+        Kids::Body(body) => {
+            trees::put_node(w, i, s, both % 256, p, g);
+            w[mark] = 1;
+            area.hangs(s, due.parent, body).then_some(Kids::Body(body))
+        }
+    }
 }
 
 // Writes a frame, and reads it.
@@ -185,13 +190,12 @@ fn wander(area: Area, rules: &Rules, w: &mut [u8]) -> Option<Walk>
             parent: due.parent,
             symbols: due.symbols / words::BASE,
         };
-        if behind.symbols == 0 && behind.slot != 0 {
-            return None;
-        }
         due = if body != 0 {
             if behind.symbols != 0 {
                 put_frame(w, top, behind);
                 top += FRAME_SIZE;
+            } else if behind.slot != 0 {
+                return None;
             }
             Siblings {
                 slot: area.first_in(due.slot),
@@ -200,6 +204,8 @@ fn wander(area: Area, rules: &Rules, w: &mut [u8]) -> Option<Walk>
             }
         } else if behind.symbols != 0 {
             behind
+        } else if behind.slot != 0 {
+            return None;
         } else if top == bottom {
             return Some(Walk { nodes, leaves });
         } else {
