@@ -185,16 +185,22 @@ fn wander(area: Area, rules: &Rules, w: &mut [u8]) -> Option<Walk>
             Kids::Body(b) => b,
         };
         nodes += 1;
-        let behind = Siblings {
-            slot: area.next_in(due.slot),
-            parent: due.parent,
-            symbols: due.symbols / words::BASE,
-        };
+        let rest = due.symbols / words::BASE;
+        // The next sibling is read on either way: read before them, the ways of a leaf and of a body join, and read back takes a fourth longer.
         due = if body != 0 {
-            if behind.symbols != 0 {
-                put_frame(w, top, behind);
+            let next = area.next_in(due.slot);
+            if rest != 0 {
+                put_frame(
+                    w,
+                    top,
+                    Siblings {
+                        slot: next,
+                        symbols: rest,
+                        ..due
+                    },
+                );
                 top += FRAME_SIZE;
-            } else if behind.slot != 0 {
+            } else if next != 0 {
                 return None;
             }
             Siblings {
@@ -202,15 +208,22 @@ fn wander(area: Area, rules: &Rules, w: &mut [u8]) -> Option<Walk>
                 parent: due.slot,
                 symbols: body,
             }
-        } else if behind.symbols != 0 {
-            behind
-        } else if behind.slot != 0 {
-            return None;
-        } else if top == bottom {
-            return Some(Walk { nodes, leaves });
         } else {
-            top -= FRAME_SIZE;
-            frame_at(w, top)
+            let next = area.next_in(due.slot);
+            if rest != 0 {
+                Siblings {
+                    slot: next,
+                    symbols: rest,
+                    ..due
+                }
+            } else if next != 0 {
+                return None;
+            } else if top == bottom {
+                return Some(Walk { nodes, leaves });
+            } else {
+                top -= FRAME_SIZE;
+                frame_at(w, top)
+            }
         };
     }
 }
