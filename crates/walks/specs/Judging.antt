@@ -31,6 +31,14 @@ pub record Hangs (b : List ℕ) (s par body : ℕ) : Type 0 where
   pub parent : parent_in b s ≡ par
   pub bare : body ≡ 0 → first_in b s ≡ 0
 
+-- its symbol and its production as a two-byte number
+pub both_in : (b : List ℕ) (s v : ℕ) → v ≡ get16 b (slot_size * s + symbol_place) → Known b → (v % 256 ≡ symbol_in b s) × (v / 256 ≡ production_in b s)
+both_in b s v e k =
+    let q : slot_size * s + 2 + 1 ≡ slot_size * s + 3 = omega arith in
+    let o = ap (byte_at b) q in
+    let c = k.small (slot_size * s + 2) in
+    (omega (arith, e, c), omega (arith, e, o, c))
+
 pub looks_low : {b : List ℕ} {s x : ℕ} → Known b → Looks b s x → x < 256
 looks_low {s = s} k h = omega (arith, h.symbol, k.small (slot_size * s + 2))
 
@@ -59,9 +67,11 @@ module _ (b : List ℕ) (s x : ℕ) where
 
   -- the symbol decides
   pub looks_told : (u v y : ℕ) → Known b → slot_size * s + slot_size ≤ length b → u ≡ get16 b (slot_size * s) → u ≡ 0x444E → v ≡ get16 b (slot_size * s + spare_place) → v ≡ 0
-      → y ≡ symbol_in b s → Tells (Looks b s x) (eqb y x)
+      → y ≡ get16 b (slot_size * s + symbol_place) → Tells (Looks b s x) (eqb (y % 256) x)
   looks_told u v y k l eu u' ev v' ey =
-      ⊎_elim (λ (h : (eqb y x ≡ true) × (y ≡ x)). rw h.0 (looks_yes u v k l eu u' ev v' (sym ey ∙ h.1))) (λ (h : (eqb y x ≡ false) × (y ≡ x → ⊥)). rw h.0 (tells_no (λ f. h.1 (ey ∙ f.symbol)))) (eqb_tells y x)
+      let o : y % 256 ≡ symbol_in b s = (both_in b s y ey k).0 in
+      ⊎_elim (λ (h : (eqb (y % 256) x ≡ true) × (y % 256 ≡ x)). rw h.0 (looks_yes u v k l eu u' ev v' (sym o ∙ h.1)))
+      (λ (h : (eqb (y % 256) x ≡ false) × (y % 256 ≡ x → ⊥)). rw h.0 (tells_no (λ f. h.1 (o ∙ f.symbol)))) (eqb_tells (y % 256) x)
 
 module _ (b : List ℕ) (s par body : ℕ) where
   whole : parent_in b s + 65536 * first_in b s ≡ get32 b (slot_size * s + parent_place)
@@ -180,15 +190,18 @@ module _ (rows : List ℕ) (t count S : ℕ) (b : List ℕ) (s par x : ℕ) (w :
     pub visited_marked : (byte_at w (at + s) ≡ 0 → ⊥) → Visited rows t count S b s par x w i w None
     visited_marked n = Visited.marked l (λ z. n (rw ea z))
 
-    module _ (g : ℕ) (eg : g ≡ tag_in b s) (r : Option Kids) (k : Kin rows t count x (production_in b s) g r) where
+    module _ (v g : ℕ) (known : Known b) (ev : v ≡ get16 b (slot_size * s + symbol_place)) (eg : g ≡ tag_in b s) (r : Option Kids) (k : Kin rows t count x (v / 256) g r) where
+      ep : v / 256 ≡ production_in b s
+      ep = (both_in b s v ev known).1
+
       pub visited_unfit : r ≡ None → Visited rows t count S b s par x w i w None
-      visited_unfit e = Visited.unfit (λ f. rw (e, eg) at k)
+      visited_unfit e = Visited.unfit (λ f. rw (e, ep, eg) at k)
 
       -- the links decide
       pub visited_hung : byte_at w (at + s) ≡ 0 → Looks b s x → g < tag_space → (j : Kids) → r ≡ Some j → (body leaf : ℕ) → Taken (Some j) 0 body leaf → (u : Bool) → Tells (Hangs b s par body) u → (w1 w' : List ℕ)
-          → Put w i (node_of s x (production_in b s) g) w1 → w' ≡ set w1 (at + s) 1 → Visited rows t count S b s par x w i w' (then_some u j)
+          → Put w i (node_of s (v % 256) (v / 256) g) w1 → w' ≡ set w1 (at + s) 1 → Visited rows t count S b s par x w i w' (then_some u j)
       visited_hung z f lg j er r1 l1 tk true h w1 w' put ew =
           let meets : Meets rows t count b s par x (Some j) =
-          record { looks = f; kin = rw (er, eg) at k; tag = rw eg at lg; hangs = λ c. let q : r1 ≡ _ = counts_one tk.counts c in rw q at (h.yes refl) } in
-          Visited.met l (rw ea at z) meets (rw (← f.symbol, eg) at put) (rw ea at ew)
-      visited_hung z f lg j er r1 l1 tk false h w1 w' put ew = Visited.stray (rw (er, eg) at k) tk.counts (h.no refl)
+          record { looks = f; kin = rw (er, ep, eg) at k; tag = rw eg at lg; hangs = λ c. let q : r1 ≡ _ = counts_one tk.counts c in rw q at (h.yes refl) } in
+          Visited.met l (rw ea at z) meets (rw ((both_in b s v ev known).0, ep, eg) at put) (rw ea at ew)
+      visited_hung z f lg j er r1 l1 tk false h w1 w' put ew = Visited.stray (rw (er, ep, eg) at k) tk.counts (h.no refl)

@@ -1,7 +1,7 @@
 -- The walk's loop: the nodes written, the slot to visit and the frames that wait, the marks and the leaves counted, at the start, after a turn, and at the end.
-use Rattle.std.specs.Prelude.{ℕ, zero, suc, ◌+◌, ◌-◌, ◌*◌, ◌/◌, ◌%◌, ◌≤◌, ◌<◌, ◌≡◌, length, set, Option, Some, None, ◌⊎◌}
+use Rattle.std.specs.Prelude.{ℕ, zero, suc, ◌+◌, ◌-◌, ◌*◌, ◌/◌, ◌%◌, ◌≤◌, ◌<◌, ◌≡◌, length, set, Option, Some, None}
 use Rattle.std.proofs.Math.Path.{refl}
-use Rattle.std.proofs.Common.{sym, ap, subst, ◌∙◌, inl, inr, ⊎_elim, get_or-set_other}
+use Rattle.std.proofs.Common.{sym, ap, subst, ◌∙◌, inl, inr, get_or-set_other}
 use mathlib.Core.List.{List, [], ◌∷◌, ◌++◌}
 use native.Mathlib.Omega.{arith}
 use Rattle.base.specs.Choose.{never}
@@ -162,10 +162,6 @@ module _ (rows : List ℕ) (head : Head) (S : ℕ) (b : List ℕ) where
         pub walking_room : i < S
         walking_room =
             omega (arith, marked_room S (marks_in S w) (nodes_from w i 0) s h.gone.marked h.gone.within some en.free, length_slots_of (nodes_from w i 0), length_nodes w i 0)
-
-        -- with no siblings behind the slot names none
-        pub none_behind : {next : ℕ} → ((rest ≡ 0) × (next ≡ 0)) ⊎ (rest ≡ 0 → ⊥) → rest ≡ 0 → next ≡ 0
-        none_behind {next} h z = ⊎_elim (λ (e : (rest ≡ 0) × (next ≡ 0)). e.1) (λ n. absurd (n z)) h
 
         module _ (lw : walk_size S ≤ length w) (few : S ≤ max_slots) (next : ℕ) (ex : next ≡ next_in b s) (ln : next < 65536) where
           abbrev e : Node

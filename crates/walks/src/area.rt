@@ -28,7 +28,7 @@ impl<'a> Area<'a> {
         let at = trees::SLOT_SIZE * s;
         base::two(self.bytes, at) == NODE_MARKS
             && base::two(self.bytes, at + trees::SPARE_PLACE) == 0
-            && usize::from(self.bytes[at + trees::SYMBOL_PLACE]) == x
+            && base::two(self.bytes, at + trees::SYMBOL_PLACE) % 256 == x
     }
 
     // Whether slot s is below the slot `parent`, and has no first child where its children's symbols are those of the body 0. Parent and first child are one

@@ -41,10 +41,10 @@ pub const WALK_SIZE: usize = trees::NODE_SIZE * trees::MAX_SLOTS
     + 1;
 
 // The rows of a grammar with the words of its productions, and what its head says.
-#[derive(Drop)]
+#[derive(Clone, Copy)]
 struct Rules<'a> {
     rows: &'a [u8],
-    words: [usize; WORDS],
+    words: &'a [usize; WORDS],
     head: Head,
 }
 
@@ -73,7 +73,7 @@ struct Walk {
 impl<'a> Rules<'a> {
     // The children of a node with symbol x, production p and tag g, or that there is no such node.
     fn kin(&self, x: usize, p: usize, g: usize) -> Option<Kids>
-        requires { Worded self.now.rows.now self.now.head.count self.now.words × (x < 256) × (p < 256) }
+        requires { Worded self.now.rows.now self.now.head.count self.now.words.now × (x < 256) × (p < 256) }
         ensures { Kin self.now.rows.now self.now.head.t self.now.head.count x p g result }
     {
         if p == 0 {
@@ -100,7 +100,7 @@ fn marks_at(slots: usize) -> usize
 
 // Visits the first of the siblings that are due: writes it as node i and marks it. Its links are looked at last: what was written for a slot that is unfit is not read.
 fn visit(area: Area, rules: &Rules, due: Siblings, w: &mut [u8], i: usize) -> Option<Kids>
-    requires { Worded rules.now.rows.now rules.now.head.count rules.now.words × (walk_size area.slots ≤ length w.old) × (i ≤ area.slots) × (due.parent < 65536) }
+    requires { Worded rules.now.rows.now rules.now.head.count rules.now.words.now × (walk_size area.slots ≤ length w.old) × (i ≤ area.slots) × (due.parent < 65536) }
     ensures { Visited rules.now.rows.now rules.now.head.t rules.now.head.count area.entry.slots area.entry.bytes.now due.slot due.parent (due.symbols % 64) w.old i w.new result }
 {
     let s = due.slot;
@@ -113,22 +113,22 @@ fn visit(area: Area, rules: &Rules, due: Siblings, w: &mut [u8], i: usize) -> Op
         return None;
     }
     let at = trees::SLOT_SIZE * s;
-    let p = usize::from(area.bytes[at + trees::PRODUCTION_PLACE]);
+    let both = base::two(area.bytes, at + trees::SYMBOL_PLACE);
+    let p = both / 256;
     let g = base::four(area.bytes, at + trees::TAG_PLACE);
-    let kids = rules.kin(x, p, g)?;
-    let node = Node {
-        slot: s as u16,
-        symbol: x as u8,
-        production: p as u8,
-        tag: g as u32,
-    };
-    trees::put_node(w, i, node);
-    w[mark] = 1;
-    let body = match kids {
-        Kids::Leaf => 0,
-        Kids::Body(b) => b,
-    };
-    area.hangs(s, due.parent, body).then_some(kids)
+    // Each arm writes the node: written once for both, the arms part again behind it, and read back takes a fourth longer.
+    match rules.kin(x, p, g)? {
+        Kids::Leaf => {
+            trees::put_node(w, i, s, both % 256, p, g);
+            w[mark] = 1;
+            area.hangs(s, due.parent, 0).then_some(Kids::Leaf)
+        }
+        Kids::Body(body) => {
+            trees::put_node(w, i, s, both % 256, p, g);
+            w[mark] = 1;
+            area.hangs(s, due.parent, body).then_some(Kids::Body(body))
+        }
+    }
 }
 
 // Writes a frame, and reads it.
@@ -164,7 +164,7 @@ fn fresh(w: &mut [u8], slots: usize)
 
 // Walks the area from its root, and writes the nodes that it visits. The symbols that are due at slot s and at its siblings behind it are one number.
 fn wander(area: Area, rules: &Rules, w: &mut [u8]) -> Option<Walk>
-    requires { Worded rules.now.rows.now rules.now.head.count rules.now.words × (walk_size area.slots ≤ length w.old) × (rules.now.head.start < symbol_space) }
+    requires { Worded rules.now.rows.now rules.now.head.count rules.now.words.now × (walk_size area.slots ≤ length w.old) × (rules.now.head.start < symbol_space) }
     ensures { Wandered rules.now.rows.now rules.now.head area.entry.slots area.entry.bytes.now w.new result }
 {
     fresh(w, area.slots);
@@ -186,31 +186,45 @@ fn wander(area: Area, rules: &Rules, w: &mut [u8]) -> Option<Walk>
             Kids::Body(b) => b,
         };
         nodes += 1;
-        let behind = Siblings {
-            slot: area.next_in(due.slot),
-            parent: due.parent,
-            symbols: due.symbols / words::BASE,
-        };
-        if behind.symbols == 0 && behind.slot != 0 {
-            return None;
-        }
+        let rest = due.symbols / words::BASE;
+        // The next sibling is read on either way: read before them, the ways of a leaf and of a body join, and read back takes a fourth longer.
         due = if body != 0 {
-            if behind.symbols != 0 {
-                put_frame(w, top, behind);
+            let next = area.next_in(due.slot);
+            if rest != 0 {
+                put_frame(
+                    w,
+                    top,
+                    Siblings {
+                        slot: next,
+                        symbols: rest,
+                        ..due
+                    },
+                );
                 top += FRAME_SIZE;
+            } else if next != 0 {
+                return None;
             }
             Siblings {
                 slot: area.first_in(due.slot),
                 parent: due.slot,
                 symbols: body,
             }
-        } else if behind.symbols != 0 {
-            behind
-        } else if top == bottom {
-            return Some(Walk { nodes, leaves });
         } else {
-            top -= FRAME_SIZE;
-            frame_at(w, top)
+            let next = area.next_in(due.slot);
+            if rest != 0 {
+                Siblings {
+                    slot: next,
+                    symbols: rest,
+                    ..due
+                }
+            } else if next != 0 {
+                return None;
+            } else if top == bottom {
+                return Some(Walk { nodes, leaves });
+            } else {
+                top -= FRAME_SIZE;
+                frame_at(w, top)
+            }
         };
     }
 }
@@ -227,9 +241,11 @@ pub fn read_tree(
     ensures { Reads (grammar_in rows.now head) slots area.now work.new result }
 {
     let area = Area { bytes: area, slots };
+    let mut words = [0; WORDS];
+    words::fill_words(rows, head.count, &mut words);
     let rules = Rules {
         rows,
-        words: words::words_of(rows, head.count),
+        words: &words,
         head,
     };
     let found = wander(area, &rules, work)?;

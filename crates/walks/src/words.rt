@@ -1,9 +1,10 @@
 // A production as one number, its left side and its body.
-ghost use Rattle.std.specs.Prelude.{◌∷◌};
+ghost use Rattle.std.specs.Prelude.{◌≡◌, ◌∷◌};
+ghost use Rattle.base.specs.Blocks.{zeros};
 ghost use Rattle.grammar.specs.Rows.{left_at};
 ghost use Rattle.grammar.specs.RowRules.{body_at};
 ghost use Rattle.walks.specs.Digits.{Digits};
-ghost use Rattle.walks.specs.Words.{Worded};
+ghost use Rattle.walks.specs.Words.{word_count, Worded};
 
 // A word for each number that a slot's byte may name as its production.
 pub const WORDS: usize = 256;
@@ -24,13 +25,12 @@ fn word_of(rows: &[u8], q: usize) -> usize
     BASE * v + DIGIT + grammar::left_at(rows, q)
 }
 
-// The words of the productions, each at its number; the others are 0.
-pub fn words_of(rows: &[u8], count: usize) -> [usize; WORDS]
-    ensures { Worded rows.now count result }
+// The words of the productions, each at its number; the others stay 0. They are written in place: an array that is returned is copied, which read back shows.
+pub fn fill_words(rows: &[u8], count: usize, words: &mut [usize; WORDS])
+    requires { words.old ≡ zeros word_count }
+    ensures { Worded rows.now count words.new }
 {
-    let mut words = [0; WORDS];
     for q in 0..count.min(WORDS - 1) {
         words[q + 1] = word_of(rows, q);
     }
-    words
 }

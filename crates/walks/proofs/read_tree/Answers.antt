@@ -1,7 +1,12 @@
-use Rattle.std.proofs.Common.{rules}
+use Rattle.std.proofs.Common.{rules, refl}
+use Rattle.base.specs.Blocks.{zeros}
 use Rattle.walks.specs.Closing.{reads_astray, reads_header, reads_told, wandered_few}
 use Rattle.walks.specs.Stacked.{marks_part}
 use Rattle.walks.proofs.read_tree.Goals as goal
+
+pub fill_words-requires : goal.fill_words-requires
+unfolding zeros
+fill_words-requires c = refl
 
 pub returns-in_err-found : goal.returns-in_err-found
 returns-in_err-found c = rw c.from_residual.ensures (reads_astray c.wander.ensures c.in_err-found.was)

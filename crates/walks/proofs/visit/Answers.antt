@@ -1,7 +1,7 @@
-use Rattle.std.proofs.Common.{rules, refl, ap, sym, ◌∙◌, Some}
+use Rattle.std.proofs.Common.{rules, refl, ap, ◌∙◌, Some}
 use Rattle.walks.specs.Judging.{Visited, taken_leaf, taken_body, visited_marked, visited_unlike, visited_unfit, visited_hung}
 use Rattle.walks.proofs.visit.Goals as goal
-use Rattle.walks.proofs.visit.Goals.{then-w-mark-ne0-via-then-w-mark-ne0, then-w-mark-ne0-via-else-w-mark-ne0+then-not-looks, in-Leaf, in-Body}
+use Rattle.walks.proofs.visit.Goals.{then-w-mark-ne0-via-then-w-mark-ne0, then-w-mark-ne0-via-else-w-mark-ne0+then-not-looks}
 
 pub returns-then-area-s : goal.returns-then-area-s
 returns-then-area-s c = Visited.over (search rules)
@@ -13,20 +13,17 @@ returns-then-w-mark-ne0 c =
       | then-w-mark-ne0-via-else-w-mark-ne0+then-not-looks w ↦ visited_unlike _ _ _ _ _ _ _ _ _ _ _ w.looks.ensures (search rules)
     ]
 
-pub returns-in_err-kids : goal.returns-in_err-kids
-returns-in_err-kids c = rw c.from_residual.ensures (visited_unfit _ _ _ _ _ _ _ _ _ _ _ c.marks_at.ensures c.if-area-s.false _ c.four-g.ensures.0 _ (rw c.from-p.ensures at c.kin.ensures) c.in_err-kids.was)
+pub returns-in_err-kin : goal.returns-in_err-kin
+returns-in_err-kin c = rw c.from_residual.ensures (visited_unfit _ _ _ _ _ _ _ _ _ _ _ c.marks_at.ensures c.if-area-s.false _ _ (record { small = c.args.area.known }) c.two-both.ensures.0 c.four-g.ensures.0 _ c.kin.ensures c.in_err-kin.was)
 
-pub returns : goal.returns
-returns c =
-    let k = rw c.from-p.ensures at c.kin.ensures in
-    let f = c.looks.ensures.yes (search rules) in
-    let put = rw c.from-p.ensures at c.put_node.ensures in
+pub returns-in-Leaf : goal.returns-in-Leaf
+returns-in-Leaf c =
     rw c.then_some.ensures
-    (elim c.match-kids.branch [
-      | in-Leaf w ↦
-          visited_hung _ _ _ _ _ _ _ _ _ _ _ c.marks_at.ensures c.if-area-s.false _ c.four-g.ensures.0 _ k c.if-w-mark-ne0.false f c.four-g.ensures.1 _ (c.in_ok-kids.was ∙ ap Some (sym w.kids-is)) _ 1
-          (taken_leaf _ _ _ (ap Some (w.kids-is ∙ w.in-Leaf.is)) w.body-is refl) _ c.hangs.ensures _ _ put refl
-      | in-Body w ↦
-          visited_hung _ _ _ _ _ _ _ _ _ _ _ c.marks_at.ensures c.if-area-s.false _ c.four-g.ensures.0 _ k c.if-w-mark-ne0.false f c.four-g.ensures.1 _ (c.in_ok-kids.was ∙ ap Some (w.in-Body.is ∙ sym w.kids-is)) _ 0
-          (taken_body _ _ _ _ (ap Some w.kids-is) w.body-is refl) _ c.hangs.ensures _ _ put refl
-    ])
+    (visited_hung _ _ _ _ _ _ _ _ _ _ _ c.marks_at.ensures c.if-area-s.false _ _ (record { small = c.args.area.known }) c.two-both.ensures.0 c.four-g.ensures.0 _ c.kin.ensures c.if-w-mark-ne0.false (c.looks.ensures.yes (search rules)) c.four-g.ensures.1 _ (c.in_ok-kin.was ∙ ap Some c.in-Leaf.is) _ 1
+    (taken_leaf _ _ _ refl refl refl) _ c.hangs.ensures _ _ c.put_node.ensures refl)
+
+pub returns-in-Body : goal.returns-in-Body
+returns-in-Body c =
+    rw c.then_some-in-Body.ensures
+    (visited_hung _ _ _ _ _ _ _ _ _ _ _ c.marks_at.ensures c.if-area-s.false _ _ (record { small = c.args.area.known }) c.two-both.ensures.0 c.four-g.ensures.0 _ c.kin.ensures c.if-w-mark-ne0.false (c.looks.ensures.yes (search rules)) c.four-g.ensures.1 _ (c.in_ok-kin.was ∙ ap Some c.in-Body.is) _ 0
+    (taken_body _ _ _ _ refl refl refl) _ c.hangs-in-Body.ensures _ _ c.put_node-in-Body.ensures refl)

@@ -6,7 +6,7 @@ use Rattle.walks.proofs.area.Area.looks.Goals.{then-two-eq-NODE_MARKS, else-two-
 
 pub returns-then-two-eq0 : goal.returns-then-two-eq0
 returns-then-two-eq0 c = elim c.if-two-eq-NODE_MARKS.branch [
-  | then-two-eq-NODE_MARKS w ↦ looks_told _ _ _ _ _ _ (record { small = c.args.self.known }) (search rules) c.two.ensures.0 (search rules) w.two-then-two-eq-NODE_MARKS.ensures.0 (search rules) c.from.ensures
+  | then-two-eq-NODE_MARKS w ↦ looks_told _ _ _ _ _ _ (record { small = c.args.self.known }) (search rules) c.two.ensures.0 (search rules) w.two-then-two-eq-NODE_MARKS.ensures.0 (search rules) c.two-then-two-eq0.ensures.0
   | else-two-eq-NODE_MARKS w ↦ absurd (w.if-two-eq-NODE_MARKS.false (eqb-true _ _ (sym w.value-is ∙ c.if-two-eq0.true)))
 ]
 
