@@ -1,9 +1,7 @@
 -- The first of the lent tokens, copied behind the room for the nodes: the parse there ends as one of all of them does.
-use Rattle.std.specs.Prelude.{ℕ, zero, suc, ◌+◌, ◌-◌, ◌*◌, ◌≤◌, ◌<◌, min, ◌≡◌, refl, Result, Ok, Err, List, ◌++◌, length, take, drop}
-use Rattle.std.proofs.Common.{ap, ◌∙◌, append_assoc, take_at, drop_at, get_or-take, length-take-le, arith}
-use Rattle.std.proofs.Math.Seq.{take-length}
+use Rattle.std.specs.Prelude.{ℕ, zero, suc, ◌+◌, ◌*◌, ◌≤◌, ◌<◌, min, ◌≡◌, Result, Ok, Err, List, ◌++◌, length, take}
+use Rattle.std.proofs.Common.{ap, ◌∙◌, take_at, drop_at, get_or-take, length-take-le, arith}
 use Rattle.base.specs.Bytes.{byte_at}
-use Rattle.base.specs.Blocks.{copied}
 use Rattle.grammar.specs.Rows.{grammar_in}
 use Rattle.grammar.specs.declared.Head.{Head}
 use Rattle.trees.specs.Coded.{node_size}
@@ -14,16 +12,6 @@ use Rattle.plain.specs.Text.{text_in}
 use Rattle.plain.specs.Outcome.{Ran, verdict_of}
 use Rattle.plain.specs.declared.ParseError.{ParseError}
 use Rattle.edits.specs.Cut.{cut_run, cut_accepted}
-
-text_copied : (S m : ℕ) (w src : List ℕ) → node_size * S + token_size * m ≤ length w → length src ≡ token_size * m → text_in S m (copied w (node_size * S) src) ≡ src
-unfolding text_in copied
-text_copied S m w src room l =
-    let at : ℕ = node_size * S in
-    let q : min (length src) (length w - at) ≡ length src = omega (arith, l, room) in
-    let d : drop at (take at w ++ src ++ drop (at + length src) w) ≡ src ++ drop (at + length src) w =
-    ap (drop at) (append_assoc (take at w) src (drop (at + length src) w)) ∙ drop_at (take at w) (src ++ drop (at + length src) w) at (length-take-le at w (omega (arith, room)))
-    in
-    rw (q, ← l, take-length src, d) (take_at src (drop (at + length src) w) (length src) refl)
 
 -- the tokens of bytes that begin alike
 tokens_front : (b b' : List ℕ) (k m r i : ℕ) → r ≡ min m k → ((j : ℕ) → j < token_size * (i + r) → byte_at b' j ≡ byte_at b j) → tokens_from b' r i ≡ take k (tokens_from b m i)
@@ -41,20 +29,23 @@ tokens_front b b' (suc k) (suc m) (suc r) i e h =
     let f = tokens_front b b' k m r (i + 1) (omega (arith, e)) (λ j l. h j (omega arith)) in
     cc
 
--- the first r of m lent tokens stand in w'
-module _ (rows : List ℕ) (head : Head) (table b : List ℕ) (m : ℕ) (g : Ground rows head table b m) (S r : ℕ) (w w' : List ℕ) (e : r ≡ min m (S + 1))
-    (room : node_size * S + token_size * (S + 1) ≤ length w) (c : w' ≡ copied w (node_size * S) (take (token_size * r) b)) where
+-- the first r of m lent tokens, x, stand behind the room for the nodes, n
+module _ {rows : List ℕ} {head : Head} {table b : List ℕ} {m : ℕ} (g : Ground rows head table b m) (S r : ℕ) (e : r ≡ min m (S + 1))
+    (n x v : List ℕ) (ln : length n ≡ node_size * S) (c : x ≡ take (token_size * r) b) where
   front_long : length (take (token_size * r) b) ≡ token_size * r
   front_long = length-take-le (token_size * r) b (omega (arith, e, g.long))
 
-  is_front : text_in S r w' ≡ take (token_size * r) b
-  is_front = rw c (text_copied S r w (take (token_size * r) b) (omega (arith, e, room)) front_long)
+  is_front : text_in S r (n ++ (x ++ v)) ≡ take (token_size * r) b
+  unfolding text_in
+  is_front =
+      let y = take (token_size * r) b in
+      rw (c, drop_at n (y ++ v) (node_size * S) ln) (take_at y v (token_size * r) front_long)
 
-  front_byte : (j : ℕ) → j < token_size * r → byte_at (text_in S r w') j ≡ byte_at b j
+  front_byte : (j : ℕ) → j < token_size * r → byte_at (text_in S r (n ++ (x ++ v))) j ≡ byte_at b j
   front_byte j l = rw is_front (get_or-take (token_size * r) b j 0 l)
 
   -- what their parse asks for
-  pub ground_front : Ground rows head table (text_in S r w') r
+  pub ground_front : Ground rows head table (text_in S r (n ++ (x ++ v))) r
   ground_front =
       record {
         prepared = g.prepared;
@@ -63,12 +54,12 @@ module _ (rows : List ℕ) (head : Head) (table b : List ℕ) (m : ℕ) (g : Gro
         kinds = record { is = λ j l. rw (front_byte (token_size * j) (omega arith)) (g.kinds.is j (omega (arith, e))) };
       }
 
-  are_front : tokens_from (text_in S r w') r 0 ≡ take (suc S) (tokens_from b m 0)
-  are_front = tokens_front b (text_in S r w') (suc S) m r 0 (omega (arith, e)) (λ j l. front_byte j (omega arith))
+  are_front : tokens_from (text_in S r (n ++ (x ++ v))) r 0 ≡ take (suc S) (tokens_from b m 0)
+  are_front = tokens_front b (text_in S r (n ++ (x ++ v))) (suc S) m r 0 (omega (arith, e)) (λ j l. front_byte j (omega arith))
 
   -- and what it says of them all
-  pub ran_front : (v : List ℕ) (x : Result ℕ ParseError) → 1 ≤ S → Ran (grammar_in rows head) S (text_in S r w') r v x → Ran (grammar_in rows head) S b m v x
-  ran_front v (Ok o) l d =
+  pub ran_front : (w : List ℕ) (y : Result ℕ ParseError) → 1 ≤ S → Ran (grammar_in rows head) S (text_in S r (n ++ (x ++ v))) r w y → Ran (grammar_in rows head) S b m w y
+  ran_front w (Ok o) l d =
       let p : Parses (grammar_in rows head) S (take (suc S) (tokens_from b m 0)) (accepted o) = rw are_front at d.parses in
       record {
         parses = cut_run (tokens_from b m 0) (accepted o) l p;
@@ -76,4 +67,4 @@ module _ (rows : List ℕ) (head : Head) (table b : List ℕ) (m : ℕ) (g : Gro
         leaves = d.leaves ∙ are_front ∙ cut_accepted (tokens_from b m 0) o l p;
         numbered = d.numbered;
       }
-  ran_front v (Err e) l h = cut_run (tokens_from b m 0) (verdict_of e) l (rw are_front at h)
+  ran_front w (Err e) l h = cut_run (tokens_from b m 0) (verdict_of e) l (rw are_front at h)

@@ -25,10 +25,8 @@ pub fn parse_lent(
     ensures { Ran (grammar_in rows.now head) slots tokens.now m work.new result }
 {
     let r = m.min(slots + 1);
-    base::copy(
-        work,
-        trees::NODE_SIZE * slots,
-        &tokens[..plain::TOKEN_SIZE * r],
-    );
+    let (_, rest) = work.split_at_mut(trees::NODE_SIZE * slots);
+    let (text, _) = rest.split_at_mut(plain::TOKEN_SIZE * r);
+    text.copy_from_slice(&tokens[..plain::TOKEN_SIZE * r]);
     plain::parse(r, tables, rows, head, slots, work)
 }

@@ -96,11 +96,6 @@ lit_more table R c e e' v q f h =
 pub lit_all : (table : List ℕ) (R c e : ℕ) → columns ≤ c → c ≤ columns → LitTo table R c e → Lit table R e
 lit_all table R c e l m h = let q : c ≡ columns = omega arith in let k = rw q at h in record { small = k.small; all = k.all; only = k.only }
 
--- s' is s with the symbol x at its end
-pub record Begun (s s' : List ℕ) (p x : ℕ) : Type 0 where
-  pub is : s' ≡ set s p x
-  pub long : p + 1 ≡ length s
-
 -- what stands while a parse runs: the grammar in the rows passes replies 1 to 3, the tables are its tables, and the bytes b are m good tokens
 pub record Ground (rows : List ℕ) (head : Head) (table b : List ℕ) (m : ℕ) : Type 0 where
   pub prepared : Prepared (grammar_in rows head)
@@ -183,11 +178,12 @@ module _ {rows : List ℕ} {head : Head} {table b : List ℕ} {m : ℕ} (g : Gro
   small_ahead x = predictor_small g.prepared.formed.head.terminals.1 x
 
   module _ {S : ℕ} where
-    pub at_start : {s s' : List ℕ} {p : ℕ} (n : List ℕ) → 1 ≤ S → Begun s s' p head.start → At G S b m n s' p 0 0
+    pub at_start : (n s : List ℕ) {p : ℕ} → 1 ≤ S → p + 1 ≡ length s → At G S b m n (set s p head.start) p 0 0
     unfolding grammar_in
-    at_start {s} {s'} {p} n r u =
-        let l : p + 1 ≡ length s' = u.long ∙ sym (ap length u.is ∙ length-set s p head.start) in
-        let x : byte_at s' p ≡ head.start = ap (λ (v : List ℕ). byte_at v p) u.is ∙ get_or-set_same s p head.start 0 (omega (arith, u.long)) in
+    at_start n s {p} r long =
+        let s' : List ℕ = set s p head.start in
+        let l : p + 1 ≡ length s' = long ∙ sym (length-set s p head.start) in
+        let x : byte_at s' p ≡ head.start = get_or-set_same s p head.start 0 (omega arith) in
         let e : drop p s' ≡ head.start ∷ [] = drop-cons s' p 0 (omega arith) ∙ rw (x, drop_of_length-le s' {i = suc p} (omega arith)) in
         let q : 0 + (length s' - p) ≡ 1 = omega arith in
         let z : m - 0 ≡ m = omega arith in

@@ -7,7 +7,7 @@ ghost use Rattle.grammar.specs.Limits.{max_body, max_nonterminals};
 ghost use Rattle.grammar.specs.Rows.{symbol_at, grammar_in};
 ghost use Rattle.trees.specs.Area.{max_slots};
 ghost use Rattle.trees.specs.Coded.{node_size};
-ghost use Rattle.plain.specs.Machine.{Lit, Ground, Begun};
+ghost use Rattle.plain.specs.Machine.{Lit, Ground};
 ghost use Rattle.plain.specs.Text.{text_in, parse_size};
 ghost use Rattle.plain.specs.Outcome.{Told, Ran};
 
@@ -64,16 +64,6 @@ struct Place {
     nodes: usize,
     top: usize,
     token: usize,
-}
-
-// The start symbol alone on the stack; its place.
-fn begin(stack: &mut [u8], start: u8) -> usize
-    requires { 1 ≤ length stack.old }
-    ensures { Begun stack.old stack.new result start }
-{
-    let p = stack.len() - 1;
-    stack[p] = start;
-    p
 }
 
 // The body in row j, `len` symbols, from `at` on.
@@ -165,11 +155,14 @@ impl Lent<'_, '_> {
         requires space { self.now.slots ≤ length stack.old }
         ensures { Ended self.now nodes.new result }
     {
+        let top = stack.len() - 1;
+        stack[top] = self.head.start as u8;
         let mut at = Place {
             nodes: 0,
-            top: begin(stack, self.head.start as u8),
+            top,
             token: 0,
         };
+        // A `while`: a turn takes one symbol off the stack and puts a body there, so no range counts the turns.
         while at.top < stack.len() {
             at = self.step(nodes, stack, at)?;
         }

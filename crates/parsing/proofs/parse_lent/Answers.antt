@@ -1,9 +1,11 @@
+use Rattle.std.proofs.Common.{rules}
 use Rattle.parsing.specs.Front.{ground_front, ran_front}
-use borrow.Author.Rules.{rules}
 use Rattle.parsing.proofs.parse_lent.Goals as goal
 
 pub parse-requires : goal.parse-requires
-parse-requires c = (ground_front _ _ _ _ _ c.requires.0 _ _ _ _ c.min-r.ensures (search rules) c.copy.ensures, search rules, search rules, search rules)
+parse-requires c =
+    (ground_front c.requires.0 _ _ c.min-r.ensures _ _ c.split_at_mut-text.result.1.now c.split_at_mut-rest.ensures.front_len c.copy_from_slice.ensures.after, search rules, search rules, search rules)
 
 pub returns : goal.returns
-returns c = ran_front _ _ _ _ _ c.requires.0 _ _ _ _ c.min-r.ensures (search rules) c.copy.ensures _ _ (search rules) c.parse.ensures
+returns c =
+    ran_front c.requires.0 _ _ c.min-r.ensures _ _ c.split_at_mut-text.result.1.now c.split_at_mut-rest.ensures.front_len c.copy_from_slice.ensures.after _ _ c.requires.1 c.parse.ensures

@@ -1,12 +1,12 @@
 use Rattle.plain.specs.Machine.{start_small, at_start, at_end, at_rest}
-use Rattle.std.proofs.Common.{rules}
+use Rattle.std.proofs.Common.{rules, arith}
 use Rattle.plain.proofs.Lent.run.Goals as goal
 
-pub overflow_cast-self : goal.overflow_cast-self
-overflow_cast-self c = let h = start_small c.requires.ground in search rules
+pub overflow_cast-stack : goal.overflow_cast-stack
+overflow_cast-stack c = let h = start_small c.requires.ground in search rules
 
 pub loop-at-init : goal.loop-at-init
-loop-at-init c = at_start c.requires.ground _ c.requires.some c.begin.ensures
+loop-at-init c = at_start c.requires.ground _ _ c.requires.some (omega arith)
 
 pub returns-then-at-self : goal.returns-then-at-self
 returns-then-at-self c = at_end c.requires.ground c.loop-at-test.false c.loop-at.invariant c.if-at-self.true
