@@ -11,7 +11,7 @@ use Rattle.trees.specs.Members.{each_mem, member}
 use Rattle.trees.specs.Spread.{slots_of, slots_append}
 use Rattle.edits.specs.Keeping.{Given}
 use Rattle.edits.specs.Giving.{held_of, Held, held_in, in_held}
-use Rattle.keeping.specs.Matched.{slot_by, held_from, Fit, Holds, slot_kept, held_next}
+use Rattle.keeping.specs.Matched.{slot_by, held_from, Fit, HoldsSlot, slot_kept, held_next}
 use Rattle.keeping.specs.Marking.{Marked, Marks}
 
 -- ---- the lowest free slot
@@ -46,7 +46,7 @@ gets_some o (Gets.kept l) = o
 gets_some o (Gets.made l q) = omega arith
 
 -- it is as the rule says
-gets_given : {m hs rest ss : List ℕ} {S s h : ℕ} {r : Option ℕ} {x s' : ℕ} → Marked m hs → Held S hs → Holds h r → Gets m S s r x s' → 1 ≤ s → Given hs s' rest ss → Given hs s (h ∷ rest) (x ∷ ss)
+gets_given : {m hs rest ss : List ℕ} {S s h : ℕ} {r : Option ℕ} {x s' : ℕ} → Marked m hs → Held S hs → HoldsSlot h r → Gets m S s r x s' → 1 ≤ s → Given hs s' rest ss → Given hs s (h ∷ rest) (x ∷ ss)
 gets_given k d e (Gets.kept l) o g = rw e.0 (Given.kept l g)
 gets_given {m} {hs} {rest} {ss} {S} {s} k d e (Gets.made {x = x} {s' = s'} l q) o g =
     let p : suc x ≡ s' = omega (arith, q) in
@@ -93,10 +93,10 @@ giving_none w ms base k =
     }
 
 -- what the i-th node holds is read from the old tree's nodes
-pub giving_holds : {w ms w' : List ℕ} {base k i s : ℕ} (r : Option ℕ) → Giving w ms base k w' i s → get_or ms i 0 ≤ base → Holds (slot_by w' (get_or ms i 0)) r → Holds (slot_by w (get_or ms i 0)) r
+pub giving_holds : {w ms w' : List ℕ} {base k i s : ℕ} (r : Option ℕ) → Giving w ms base k w' i s → get_or ms i 0 ≤ base → HoldsSlot (slot_by w' (get_or ms i 0)) r → HoldsSlot (slot_by w (get_or ms i 0)) r
 giving_holds {w} {ms} {w'} {base} {i = i} r g l e = rw (slot_kept w w' base (get_or ms i 0) g.before l) at e
 
-pub giving_more : {S : ℕ} {w ms w' w'' m : List ℕ} {base k i s s' : ℕ} {h : Option ℕ} → Marks w ms k m → Fit S w ms k → i < k → Holds (slot_by w (get_or ms i 0)) h
+pub giving_more : {S : ℕ} {w ms w' w'' m : List ℕ} {base k i s s' : ℕ} {h : Option ℕ} → Marks w ms k m → Fit S w ms k → i < k → HoldsSlot (slot_by w (get_or ms i 0)) h
     → Got m S s h w' (base + i) w'' s' → Giving w ms base k w' i s → Giving w ms base k w'' (i + 1) s'
 giving_more {S} {w} {ms} {w'} {w''} {m} {base} {k} {i} {s} {s'} {h} mk d l e u g =
     record {

@@ -9,7 +9,7 @@ use Rattle.base.specs.Bytes.{byte_at}
 use Rattle.base.specs.Blocks.{zeros, byte_zeros}
 use Rattle.edits.specs.Keeping.{kept_of}
 use Rattle.edits.specs.Giving.{held_of, kept_made}
-use Rattle.keeping.specs.Matched.{slot_by, held_from, length_from, held_last, Holds}
+use Rattle.keeping.specs.Matched.{slot_by, held_from, length_from, held_last, HoldsSlot}
 
 -- the slots held are the ones marked
 pub record Marked (m hs : List ℕ) : Type 0 where
@@ -72,15 +72,15 @@ module _ (w ms : List ℕ) (i : ℕ) where
   more h e =
       held_last w ms i 0 ∙ ap (λ (j : ℕ). held_from w ms i 0 ++ (slot_by w (get_or ms j 0) ∷ [])) (omega arith) ∙ ap (λ (s : ℕ). held_from w ms i 0 ++ (s ∷ [])) e
 
-  pub marks_none : {m : List ℕ} → Holds (slot_by w (get_or ms i 0)) None → Marks w ms i m → Marks w ms (i + 1) m
+  pub marks_none : {m : List ℕ} → HoldsSlot (slot_by w (get_or ms i 0)) None → Marks w ms i m → Marks w ms (i + 1) m
   marks_none {m} e k = record { marked = rw (more 0 e) (marked_none m (held_from w ms i 0) k.marked) }
 
-  pub marks_some : {m m' : List ℕ} (h : ℕ) → Holds (slot_by w (get_or ms i 0)) (Some h) → h < length m → m' ≡ set m h 1 → Marks w ms i m → Marks w ms (i + 1) m'
+  pub marks_some : {m m' : List ℕ} (h : ℕ) → HoldsSlot (slot_by w (get_or ms i 0)) (Some h) → h < length m → m' ≡ set m h 1 → Marks w ms i m → Marks w ms (i + 1) m'
   marks_some {m} h e l f k = record { marked = rw (more h e.0, f) (marked_some m (held_from w ms i 0) h e.1 l k.marked) }
 
-  pub keeps_none : {kept : ℕ} → Holds (slot_by w (get_or ms i 0)) None → Keeps w ms i kept → Keeps w ms (i + 1) kept
+  pub keeps_none : {kept : ℕ} → HoldsSlot (slot_by w (get_or ms i 0)) None → Keeps w ms i kept → Keeps w ms (i + 1) kept
   keeps_none e k = record { count = rw (more 0 e, kept_append (held_from w ms i 0) 0) (omega (arith, k.count)) }
 
-  pub keeps_some : {kept : ℕ} (h : ℕ) → Holds (slot_by w (get_or ms i 0)) (Some h) → Keeps w ms i kept → Keeps w ms (i + 1) (kept + 1)
+  pub keeps_some : {kept : ℕ} (h : ℕ) → HoldsSlot (slot_by w (get_or ms i 0)) (Some h) → Keeps w ms i kept → Keeps w ms (i + 1) (kept + 1)
   keeps_some zero e k = absurd (omega (arith, e.1))
   keeps_some (suc h) e k = record { count = rw (more (suc h) e.0, kept_append (held_from w ms i 0) (suc h)) (omega (arith, k.count)) }

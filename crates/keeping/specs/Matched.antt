@@ -23,16 +23,16 @@ pub record Old (base k : ℕ) (ms : List ℕ) : Type 0 where
   pub each : (i : ℕ) → i < k → get_or ms i 0 ≤ base
 
 -- the slot that a node holds, if it holds one: h, unless that is 0
-abbrev pub Holds : ℕ → Option ℕ → Type 0
-Holds h None = h ≡ 0
-Holds h (Some s) = (h ≡ s) × (1 ≤ s) × (s < 65536)
+abbrev pub HoldsSlot : ℕ → Option ℕ → Type 0
+HoldsSlot h None = h ≡ 0
+HoldsSlot h (Some s) = (h ≡ s) × (1 ≤ s) × (s < 65536)
 
 -- such a slot
 abbrev pub Slot : Option ℕ → Type 0
 Slot None = Unit {0}
 Slot (Some s) = (1 ≤ s) × (s < 65536)
 
-pub slot_in : (h : ℕ) (r : Option ℕ) → Holds h r → Slot r
+pub slot_in : (h : ℕ) (r : Option ℕ) → HoldsSlot h r → Slot r
 slot_in h None e = tt
 slot_in h (Some s) e = (e.1, e.2)
 

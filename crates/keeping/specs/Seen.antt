@@ -4,7 +4,7 @@ use Rattle.std.proofs.Common.{◌∙◌, arith}
 use Rattle.notes.specs.declared.Notes.{Notes}
 use Rattle.notes.specs.Views.{nodes_in, matches_in, length_marks}
 use Rattle.notes.specs.Lists.{nodes_of, matches_of, marks_of, Lent, Same, same_then, Seen}
-use Rattle.keeping.specs.Matched.{slot_by, held_from, Old, Fit, Holds}
+use Rattle.keeping.specs.Matched.{slot_by, held_from, Old, Fit, HoldsSlot}
 use Rattle.keeping.specs.Marking.{Marks, Keeps}
 use Rattle.keeping.specs.Filling.{Gives, Got}
 
@@ -19,7 +19,7 @@ module _ {u v : Notes} {ns ms ks : List ℕ} (h : Seen u v ns ms ks) where
   pub match_fits : (k i : ℕ) → Old u.slots k ms → i < k → get_or (matches_of v) i 0 ≤ v.slots
   match_fits k i o l = rw (h.matches, h.same.slots) (o.each i l)
 
-  pub held_then : (i : ℕ) (r : Option ℕ) → Holds (slot_by (nodes_of v) (get_or (matches_of v) i 0)) r → Holds (slot_by ns (get_or ms i 0)) r
+  pub held_then : (i : ℕ) (r : Option ℕ) → HoldsSlot (slot_by (nodes_of v) (get_or (matches_of v) i 0)) r → HoldsSlot (slot_by ns (get_or ms i 0)) r
   held_then i r e = rw (h.nodes, h.matches) at e
 
   pub old_now : {k : ℕ} → Old u.slots k ms → Old v.slots k (matches_of v)
@@ -40,7 +40,7 @@ module _ {u v : Notes} {ns ms ks : List ℕ} (h : Seen u v ns ms ks) where
 
 -- the slots are given: the nodes change, matches and marks stay
 module _ {u v : Notes} {ms ks : List ℕ} (h : Seen u v (nodes_of v) ms ks) where
-  pub held_seen : (i : ℕ) (r : Option ℕ) → Holds (slot_by (nodes_of v) (get_or (matches_of v) i 0)) r → Holds (slot_by (nodes_of v) (get_or ms i 0)) r
+  pub held_seen : (i : ℕ) (r : Option ℕ) → HoldsSlot (slot_by (nodes_of v) (get_or (matches_of v) i 0)) r → HoldsSlot (slot_by (nodes_of v) (get_or ms i 0)) r
   held_seen i r e = rw h.matches at e
 
   pub got_then : (a : ℕ) {s s' : ℕ} {r : Option ℕ} {n n' : List ℕ} → Got (marks_of v) v.slots s r n (v.slots + a) n' s' → Got ks u.slots s r n (u.slots + a) n' s'

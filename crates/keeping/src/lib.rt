@@ -6,7 +6,7 @@ ghost use Rattle.std.specs.Prelude.{◌≡◌, ◌+◌, ◌<◌, ◌≤◌, max,
 ghost use Rattle.trees.specs.Area.{max_slots};
 ghost use Rattle.notes.specs.Views.{notes_size, nodes_in, matches_in};
 ghost use Rattle.notes.specs.Lists.{nodes_of, matches_of, marks_of, Same, Seen};
-ghost use Rattle.keeping.specs.Matched.{slot_by, held_from, Old, Fit, Holds, Slot};
+ghost use Rattle.keeping.specs.Matched.{slot_by, held_from, Old, Fit, HoldsSlot, Slot};
 ghost use Rattle.keeping.specs.Marking.{Marks, Keeps};
 ghost use Rattle.keeping.specs.Filling.{Lowest, Got, Gives};
 
@@ -15,11 +15,9 @@ use notes::Notes;
 // The slot that node i of the new tree holds.
 fn held(notes: &Notes, i: usize) -> Option<usize>
     requires { (i < notes.now.slots) × (get_or (matches_of notes.now) i 0 ≤ notes.now.slots) }
-    ensures { Holds (slot_by (nodes_of notes.now) (get_or (matches_of notes.now) i 0)) result }
+    ensures { HoldsSlot (slot_by (nodes_of notes.now) (get_or (matches_of notes.now) i 0)) result }
 {
-    let Some(j) = notes.match_of(i) else {
-        return None;
-    };
+    let j = notes.match_of(i)?;
     match notes.slot_of(j) {
         0 => None,
         s => Some(s),

@@ -109,13 +109,9 @@ fn find(notes: &Notes, lo: usize, hi: usize, x: usize) -> Option<usize>
     ensures { Found (nodes_of notes.now) (widths_of notes.now) lo hi x result }
 {
     for j in lo..hi {
-        if notes.symbol_of(j) != x {
-            continue;
+        if notes.symbol_of(j) == x && notes.width_of(j) != 0 {
+            return Some(j);
         }
-        if notes.width_of(j) == 0 {
-            continue;
-        }
-        return Some(j);
     }
     None
 }
@@ -153,10 +149,7 @@ fn hand(notes: &mut Notes, c: usize, d: usize)
     requires { (notes.old.slots ≤ c) × (c < notes.old.slots + notes.old.slots) × (d < notes.old.slots) }
     ensures { Handed (widths_of notes.old) c d notes.old.slots (matches_of notes.old) (matches_of notes.new) × Entries notes.old notes.new }
 {
-    if notes.width_of(c) != 0 {
-        return;
-    }
-    if notes.width_of(d) != 0 {
+    if notes.width_of(c) != 0 || notes.width_of(d) != 0 {
         return;
     }
     let i = c - notes.slots;
@@ -202,11 +195,9 @@ fn seek(notes: &mut Notes, sizes: Sizes, change: Change, at: Spot, width: usize)
         return notes.match_of(at.node);
     }
     // such a node's number is an old node's in any case; the first test shows it
-    if at.node < sizes.old {
-        if at.token < change.place {
-            notes.set_match(at.node, Some(at.node));
-            return Some(at.node);
-        }
+    if at.node < sizes.old && at.token < change.place {
+        notes.set_match(at.node, Some(at.node));
+        return Some(at.node);
     }
     let i = notes.slots + at.node;
     let x = notes.symbol_of(i);
@@ -221,16 +212,7 @@ fn is_apart(change: Change, t: usize, width: usize) -> bool
     requires { (t ≤ 65535) × (width ≤ 65535) }
     ensures { Tells (Apart change.place change.inserted t width) result }
 {
-    if width == 0 {
-        return true;
-    }
-    if change.place + change.inserted <= t {
-        return true;
-    }
-    if t + width < change.place {
-        return true;
-    }
-    false
+    width == 0 || change.place + change.inserted <= t || t + width < change.place
 }
 
 // The number of the new node behind the subtree of the one at a spot, which keeps the slot of old node j, if it is carried along. Of trees that are derivations the last

@@ -51,25 +51,25 @@ abbrev pub list_from : (ℕ → ℕ) → ℕ → ℕ → List ℕ
 list_from f zero i = []
 list_from f (suc n) i = f i ∷ list_from f n (i + 1)
 
--- ---- the lists; each is shut, so that only its laws are used
+-- ---- the lists; what they are made of is shut, so that only its laws are used
 
 unfoldable pub nodes_in : ℕ → List ℕ → List ℕ
 nodes_in S w = take (node_size * (S + S)) w
 
 -- n numbers, each at the same place of its note
-abbrev pub field_in : ℕ → ℕ → ℕ → List ℕ → List ℕ
+unfoldable pub field_in : ℕ → ℕ → ℕ → List ℕ → List ℕ
 field_in S at n w = list_from (λ x. get16 w (note_at S x + at)) n 0
 
-unfoldable pub ends_in : ℕ → List ℕ → List ℕ
+abbrev pub ends_in : ℕ → List ℕ → List ℕ
 ends_in S w = field_in S 0 (S + S) w
 
-unfoldable pub widths_in : ℕ → List ℕ → List ℕ
+abbrev pub widths_in : ℕ → List ℕ → List ℕ
 widths_in S w = field_in S width_place (S + S) w
 
-unfoldable pub starts_in : ℕ → List ℕ → List ℕ
+abbrev pub starts_in : ℕ → List ℕ → List ℕ
 starts_in S w = field_in S start_place (S + 1) w
 
-unfoldable pub matches_in : ℕ → List ℕ → List ℕ
+abbrev pub matches_in : ℕ → List ℕ → List ℕ
 matches_in S w = field_in S match_place S w
 
 unfoldable pub marks_in : ℕ → List ℕ → List ℕ
@@ -163,9 +163,11 @@ module _ {a b : ℕ} {w w' : List ℕ} (h : Only a b w w') where
       (λ j k. let x : j < L = omega (arith, length-take L w') in get_or-take L w' j 0 x ∙ h.others j (inl (omega arith)) ∙ sym (get_or-take L w j 0 x))
 
   field_kept : (S at n : ℕ) → b ≤ node_size * (S + S) → field_in S at n w' ≡ field_in S at n w
+  unfolding field_in
   field_kept S at n l = list_same _ _ n (λ j m. word_kept h (note_at S j + at) (inr (omega arith)))
 
   field_before : (S at n : ℕ) → at ≤ match_place → n ≤ S + S + 1 → marks_at S ≤ a → field_in S at n w' ≡ field_in S at n w
+  unfolding field_in
   field_before S at n l k m = list_same _ _ n (λ j o. word_kept h (note_at S j + at) (inl (omega arith)))
 
   marks_kept : (S : ℕ) → b ≤ marks_at S → marks_in S w' ≡ marks_in S w
@@ -175,6 +177,7 @@ module _ {a b : ℕ} {w w' : List ℕ} (h : Only a b w w') where
 -- a number of a note is written
 module _ (w : List ℕ) (S x at v : ℕ) (l : at ≤ match_place) where
   field_put : (n : ℕ) → x < n → note_at S x + note_size ≤ length w → field_in S at n (put16 w (note_at S x + at) v) ≡ set (field_in S at n w) x v
+  unfolding field_in
   field_put n k m =
       list_set _ _ n x v k (get_put16 w (note_at S x + at) v (omega arith))
       (λ j o d. word_kept (only_word w (note_at S x + at) v) (note_at S j + at) (apart j d))
@@ -183,6 +186,7 @@ module _ (w : List ℕ) (S x at v : ℕ) (l : at ≤ match_place) where
       apart j d = by_cases (dec_lt j x) (λ o. inl (omega arith)) (λ o. inr (by_cases (ℕ_discrete j x) (λ e. absurd (d e)) (λ e. omega arith)))
 
   field_other : (n other : ℕ) → other ≤ match_place → (at + 2 ≤ other) ⊎ (other + 2 ≤ at) → field_in S other n (put16 w (note_at S x + at) v) ≡ field_in S other n w
+  unfolding field_in
   field_other n other k d = list_same _ _ n (λ j o. word_kept (only_word w (note_at S x + at) v) (note_at S j + other) (apart d j))
     where
       apart : (at + 2 ≤ other) ⊎ (other + 2 ≤ at) → (j : ℕ) → (note_at S j + other + 2 ≤ note_at S x + at) ⊎ (note_at S x + at + 2 ≤ note_at S j + other)
@@ -195,42 +199,17 @@ module _ (w : List ℕ) (S x at v : ℕ) (l : at ≤ match_place) where
 -- ---- reading
 
 module _ (w : List ℕ) (S : ℕ) where
-  pub length_ends : length (ends_in S w) ≡ S + S
-  unfolding ends_in
-  length_ends = length_list _ (S + S) 0
-
-  pub length_widths : length (widths_in S w) ≡ S + S
-  unfolding widths_in
-  length_widths = length_list _ (S + S) 0
-
-  pub length_starts : length (starts_in S w) ≡ S + 1
-  unfolding starts_in
-  length_starts = length_list _ (S + 1) 0
-
-  pub length_matches : length (matches_in S w) ≡ S
-  unfolding matches_in
-  length_matches = length_list _ S 0
+  pub length_field : (at n : ℕ) → length (field_in S at n w) ≡ n
+  unfolding field_in
+  length_field at n = length_list _ n 0
 
   pub length_marks : length (marks_in S w) ≡ S + 1
   unfolding marks_in
   length_marks = length_list _ (S + 1) 0
 
-  module _ (x at r : ℕ) (e : at ≡ note_at S x) where
-    pub end_is : x < S + S → r ≡ get16 w at → r ≡ get_or (ends_in S w) x 0
-    unfolding ends_in
-    end_is l q = let z : at ≡ note_at S x + 0 = omega arith in q ∙ ap (get16 w) z ∙ sym (get_list _ (S + S) x l)
-
-    pub width_is : x < S + S → r ≡ get16 w (at + width_place) → r ≡ get_or (widths_in S w) x 0
-    unfolding widths_in
-    width_is l q = let z : at + width_place ≡ note_at S x + width_place = omega arith in q ∙ ap (get16 w) z ∙ sym (get_list _ (S + S) x l)
-
-    pub start_is : x ≤ S → r ≡ get16 w (at + start_place) → r ≡ get_or (starts_in S w) x 0
-    unfolding starts_in
-    start_is l q = let z : at + start_place ≡ note_at S x + start_place = omega arith in q ∙ ap (get16 w) z ∙ sym (get_list _ (S + 1) x (omega arith))
-
-    pub match_is : x < S → r ≡ get16 w (at + match_place) → r ≡ get_or (matches_in S w) x 0
-    unfolding matches_in
-    match_is l q = let z : at + match_place ≡ note_at S x + match_place = omega arith in q ∙ ap (get16 w) z ∙ sym (get_list _ S x l)
+  pub number_is : (at n x r : ℕ) → x < n → r ≡ get16 w (note_at S x + at) → r ≡ get_or (field_in S at n w) x 0
+  unfolding field_in
+  number_is at n x r l q = q ∙ sym (get_list _ n x l)
 
   pub mark_is : (s at r : ℕ) → at ≡ marks_at S → s ≤ S → r ≡ byte_at w (at + s) → r ≡ get_or (marks_in S w) s 0
   unfolding marks_in
@@ -246,15 +225,9 @@ module _ (w : List ℕ) (S : ℕ) where
   nodes_in_lem zero i l = refl
   nodes_in_lem (suc k) i l = rw (node_in i (omega arith), nodes_in_lem k (i + 1) (omega arith))
 
-  module _ (x r : ℕ) (l : x < S + S) where
-    pub symbol_is : r ≡ (node_at w x).symbol → r ≡ (node_at (nodes_in S w) x).symbol
-    symbol_is e = e ∙ ap (λ (u : Node). u.symbol) (sym (node_in x l))
-
-    pub production_is : r ≡ (node_at w x).production → r ≡ (node_at (nodes_in S w) x).production
-    production_is e = e ∙ ap (λ (u : Node). u.production) (sym (node_in x l))
-
-    pub slot_is : r ≡ (node_at w x).slot → r ≡ (node_at (nodes_in S w) x).slot
-    slot_is e = e ∙ ap (λ (u : Node). u.slot) (sym (node_in x l))
+  -- so what is read of node x is of that node
+  pub field_is : (x r : ℕ) (f : Node → ℕ) → x < S + S → r ≡ f (node_at w x) → r ≡ f (node_at (nodes_in S w) x)
+  field_is x r f l e = e ∙ ap f (sym (node_in x l))
 
 -- a number is read, and is 0 or not
 pub tells_zero : (a b : ℕ) → a ≡ b → Tells (b ≡ 0) (eqb a 0)
@@ -265,7 +238,6 @@ tells_zero a b q = record { yes = λ e. sym q ∙ eqb-true a 0 e; no = λ e z. e
 module _ (w : List ℕ) (S : ℕ) (room : notes_size S ≤ length w) where
   module _ (x at v : ℕ) (e : at ≡ note_at S x) where
     pub start_set : (w' : List ℕ) → x ≤ S → w' ≡ put16 w (at + start_place) v → Viewed S w' (nodes_in S w) (ends_in S w) (widths_in S w) (set (starts_in S w) x v) (matches_in S w)
-    unfolding ends_in widths_in starts_in matches_in
     start_set w' l q =
         rw (q, e) (record {
           nodes = field_nodes w S x start_place v (omega arith);
@@ -276,7 +248,6 @@ module _ (w : List ℕ) (S : ℕ) (room : notes_size S ≤ length w) where
         })
 
     pub match_set : (w' : List ℕ) → x < S → w' ≡ put16 w (at + match_place) v → Viewed S w' (nodes_in S w) (ends_in S w) (widths_in S w) (starts_in S w) (set (matches_in S w) x v)
-    unfolding ends_in widths_in starts_in matches_in
     match_set w' l q =
         rw (q, e) (record {
           nodes = field_nodes w S x match_place v (omega arith);
@@ -288,7 +259,6 @@ module _ (w : List ℕ) (S : ℕ) (room : notes_size S ≤ length w) where
 
     pub span_set : (w₁ w₂ : List ℕ) (width : ℕ) → x < S + S → w₁ ≡ put16 w at v → w₂ ≡ put16 w₁ (at + width_place) width
         → Viewed S w₂ (nodes_in S w) (set (ends_in S w) x v) (set (widths_in S w) x width) (starts_in S w) (matches_in S w)
-    unfolding ends_in widths_in starts_in matches_in
     span_set w₁ w₂ width l q r =
         let z : at ≡ note_at S x + 0 = omega arith in
         let y : note_at S x + 0 + width_place ≡ note_at S x + width_place = omega arith in
@@ -303,7 +273,7 @@ module _ (w : List ℕ) (S : ℕ) (room : notes_size S ≤ length w) where
         })
 
   pub mark_set : (s at : ℕ) → at ≡ marks_at S → s ≤ S → Seen S (set w (at + s) 1) (nodes_in S w) (matches_in S w) (set (marks_in S w) s 1)
-  unfolding matches_in marks_in
+  unfolding marks_in
   mark_set s at e l =
       let o = only_byte w (marks_at S + s) 1 in
       rw e (record {
@@ -314,7 +284,7 @@ module _ (w : List ℕ) (S : ℕ) (room : notes_size S ≤ length w) where
 
   pub slot_set : (w' : List ℕ) (x s : ℕ) → x < S + S → Put w x (in_slot s (node_at w x)) w'
       → Put (nodes_in S w) x (in_slot s (node_at (nodes_in S w) x)) (nodes_in S w') × Seen S w' (nodes_in S w') (matches_in S w) (marks_in S w)
-  unfolding nodes_in matches_in
+  unfolding nodes_in
   slot_set w' x s l h =
       let L : ℕ = node_size * (S + S) in
       let lw : length (take L w) ≡ L = length-take-le L w (omega arith) in
@@ -346,7 +316,7 @@ module _ (w : List ℕ) (S : ℕ) (room : notes_size S ≤ length w) where
 
   pub notes_cleared : (a b : ℕ) (p : List ℕ) → a ≡ note_at S 0 → b ≡ marks_at S → p ≡ zeros (length (take (b - a) (drop a w)))
       → Viewed S (with_part w a b p) (nodes_in S w) (zeros (S + S)) (zeros (S + S)) (zeros (S + 1)) (zeros S)
-  unfolding ends_in widths_in starts_in matches_in
+  unfolding field_in
   notes_cleared a b p e f q =
       let n : length (take (b - a) (drop a w)) ≡ b - a = length-take-le (b - a) (drop a w) (omega (arith, length-drop a w)) in
       let z : p ≡ zeros (b - a) = q ∙ ap zeros n in
@@ -366,7 +336,7 @@ module _ (w : List ℕ) (S : ℕ) (room : notes_size S ≤ length w) where
 
   pub marks_cleared : (a b : ℕ) (p : List ℕ) → a ≡ marks_at S → b ≡ a + S + 1 → p ≡ zeros (length (take (b - a) (drop a w)))
       → Seen S (with_part w a b p) (nodes_in S w) (matches_in S w) (zeros (S + 1))
-  unfolding matches_in marks_in
+  unfolding marks_in
   marks_cleared a b p e f q =
       let n : length (take (b - a) (drop a w)) ≡ b - a = length-take-le (b - a) (drop a w) (omega (arith, length-drop a w)) in
       let z : p ≡ zeros (b - a) = q ∙ ap zeros n in

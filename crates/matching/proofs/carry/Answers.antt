@@ -1,5 +1,5 @@
 use Rattle.std.proofs.Common.{◌≡◌, ◌+◌, ◌-◌}
-use Rattle.notes.specs.Views.{length_matches}
+use Rattle.notes.specs.Views.{length_field}
 use Rattle.matching.specs.Carrying.{row_start, row_next}
 use Rattle.matching.specs.Noted.{viewed_all, matches_on}
 use borrow.Author.Rules.{rules}
@@ -13,7 +13,7 @@ loop-y-preserved c =
     let u = c.loop-y.invariant in
     let k : c.args.j + (c.loop-y.y - c.args.i) + 1 ≡ c.args.j + 1 + (c.loop-y.y - c.args.i) = search rules in
     record {
-      row = row_next u.row (search rules) (rw length_matches (search rules)) (rw k at c.set_match.ensures.matches);
+      row = row_next u.row (search rules) (rw length_field (search rules)) (rw k at c.set_match.ensures.matches);
       viewed = matches_on u.viewed c.set_match.ensures;
     }
 

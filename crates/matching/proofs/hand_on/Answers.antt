@@ -1,4 +1,4 @@
-use Rattle.notes.specs.Views.{length_matches}
+use Rattle.notes.specs.Views.{length_field}
 use Rattle.matching.specs.Handing.{rise_low, rise_high, few_handed, handing_start, handing_new, handing_old, handing_next}
 use Rattle.matching.specs.Noted.{viewed_all, matches_on, end_out, handed_out}
 use borrow.Author.Rules.{rules}
@@ -36,8 +36,8 @@ loop-c-preserved c =
       stop = search rules;
       low_c = search rules;
       low_d = search rules;
-      handing = handing_next u.handing _ _ _ _ c.end_of-last.ensures.0 c.end_of-stop.ensures.0 (search rules) (search rules) (search rules) (rw length_matches (search rules)) x y p q h;
-      few = few_handed u.few (rw length_matches (search rules)) (search rules) h;
+      handing = handing_next u.handing _ _ _ _ c.end_of-last.ensures.0 c.end_of-stop.ensures.0 (search rules) (search rules) (search rules) (rw length_field (search rules)) x y p q h;
+      few = few_handed u.few (rw length_field (search rules)) (search rules) h;
       viewed = v;
     }
 

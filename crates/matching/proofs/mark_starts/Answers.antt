@@ -1,5 +1,5 @@
 use Rattle.std.proofs.Common.{◌≡◌}
-use Rattle.notes.specs.Views.{length_starts}
+use Rattle.notes.specs.Views.{length_field}
 use Rattle.matching.specs.Finding.{started_none, started_inner, started_leaf}
 use Rattle.matching.specs.Noted.{viewed_all, production_out, starts_on}
 use borrow.Author.Rules.{rules}
@@ -18,7 +18,7 @@ loop-i-preserved c =
     let u = c.loop-i.invariant in
     record {
       few = search rules;
-      started = started_leaf _ _ _ _ _ _ (production_out u.viewed _ _ c.production_of.ensures.0) (search rules) (rw length_starts (search rules)) c.set_start.ensures.starts u.started;
+      started = started_leaf _ _ _ _ _ _ (production_out u.viewed _ _ c.production_of.ensures.0) (search rules) (rw length_field (search rules)) c.set_start.ensures.starts u.started;
       viewed = starts_on u.viewed c.set_start.ensures;
     }
 

@@ -1,4 +1,4 @@
-use Rattle.notes.specs.Views.{length_ends, length_widths}
+use Rattle.notes.specs.Views.{length_field}
 use Rattle.matching.specs.Measure.{gauge_start, gauge_next, gauge_more, gauge_end}
 use Rattle.matching.specs.Noted.{viewed_all, built_in, measured_in, spanned_out, spans_on}
 use borrow.Author.Rules.{rules}
@@ -14,7 +14,7 @@ pub loop-i-preserved : goal.loop-i-preserved
 loop-i-preserved c =
     let u = c.loop-i.invariant in
     record {
-      gauged = gauge_more _ _ u.gauged c.loop-i-test.true (rw length_ends (search rules)) (rw length_widths (search rules)) (spanned_out u.viewed _ _ c.span_of-span.ensures.0) c.set_span.ensures.ends c.set_span.ensures.widths;
+      gauged = gauge_more _ _ u.gauged c.loop-i-test.true (rw length_field (search rules)) (rw length_field (search rules)) (spanned_out u.viewed _ _ c.span_of-span.ensures.0) c.set_span.ensures.ends c.set_span.ensures.widths;
       viewed = spans_on u.viewed c.set_span.ensures;
     }
 

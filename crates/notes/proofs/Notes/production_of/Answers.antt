@@ -1,6 +1,7 @@
-use Rattle.notes.specs.Views.{production_is}
+use Rattle.notes.specs.Views.{field_is}
+use Rattle.trees.specs.Nodes.{Node}
 use borrow.Author.Rules.{rules}
 use Rattle.notes.proofs.Notes.production_of.Goals as goal
 
 pub returns : goal.returns
-returns c = (search (production_is, rules), search rules)
+returns c = (field_is _ _ _ _ (λ (u : Node). u.production) c.requires c.production_of.ensures.0, search rules)
