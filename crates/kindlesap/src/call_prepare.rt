@@ -1,0 +1,28 @@
+// The call prepare.
+ghost use Rattle.std.specs.Prelude.{length};
+ghost use Rattle.replies.specs.Reply.{reply_of};
+ghost use Rattle.calls.specs.Order.{Outcome};
+ghost use Rattle.calls.specs.Prepare.{prepare_call};
+
+use replies::{Counts, Reason};
+
+// The checks of prepare in their order, then the tables.
+pub fn prepare_checked(image: &[u8], tables: &mut [u8]) -> Result<Counts, Reason>
+    ensures { Outcome (prepare_call image.now (length tables.old)) tables.old
+        (reply_of result) tables.new }
+{
+    // Replies 1, 2, 3
+    let checked = crate::checks::check(image)?;
+    // Reply 4
+    if tables.len() != tables::TABLES_SIZE {
+        return Err(Reason::WrongTables);
+    }
+    tables::write_tables(
+        &checked.rows,
+        checked.head,
+        &checked.sets,
+        &checked.cells,
+        tables,
+    );
+    Ok(Counts::default())
+}
