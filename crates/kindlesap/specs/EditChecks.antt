@@ -23,13 +23,14 @@ use Rattle.calls.specs.Checks.{Sized, area}
 use Rattle.calls.specs.Edit.{edit_with, edit_call}
 use Rattle.calls.proofs.CheckLaws.{valid_of, valid_sized, valid_holds, given_passed}
 use Rattle.calls.specs.CheckLaws.{Fit}
-use Rattle.kindlesap.specs.declared.checks.Checked.{Checked}
+use Rattle.grammar.specs.declared.Head.{Head}
+use Rattle.kindlesap.specs.declared.checks.Analysis.{Analysis}
 use Rattle.kindlesap.specs.GrammarChecks.{Checks, checked_refused}
 use Rattle.kindlesap.specs.ParseChecks.{counted}
 
 -- replies 1 to 3
 pub edit_3 : (tables tokens : List ℕ) (place removed room : ℕ) (tree : List ℕ) {image : List ℕ}
-    {r : Result Checked Reason} (p : Reason) → Checks image r → r ≡ Err p
+    {k : Analysis} {r : Result Head Reason} (p : Reason) → Checks image k r → r ≡ Err p
     → Outcome (edit_call image tables tokens place removed room tree) tree (Refused p) tree
 edit_3 tables tokens place removed room tree p h e =
     checked_refused (edit_with tables tokens place removed room tree) tree p h e

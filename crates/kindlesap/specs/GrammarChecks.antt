@@ -23,12 +23,12 @@ use Rattle.calls.specs.Order.{Call, Outcome}
 use Rattle.calls.specs.Checks.{given}
 use Rattle.calls.proofs.CheckLaws.{given_refused}
 use Rattle.calls.specs.CheckLaws.{Fit, Unfit, bad_image, useless, conflict}
-use Rattle.kindlesap.specs.declared.checks.Checked.{Checked}
+use Rattle.kindlesap.specs.declared.checks.Analysis.{Analysis}
 
 -- what replies 1 to 3 say of an image: its grammar in the rows, with its words and its cells, or the reason
-pub data Checks (image : List ℕ) : Result Checked Reason → Type 0 where
-  fits : {k : Checked} → Image image (grammar_in k.rows k.head) → Ready k.rows k.head k.sets k.cells → Checks image (Ok k)
-  unfit : {p : Reason} → Unfit image p → Checks image (Err p)
+pub data Checks (image : List ℕ) (k : Analysis) : Result Head Reason → Type 0 where
+  fits : {h : Head} → Image image (grammar_in k.rows h) → Ready k.rows h k.sets k.cells → Checks image k (Ok h)
+  unfit : {p : Reason} → Unfit image p → Checks image k (Err p)
 
 -- ---- on the way
 
@@ -45,8 +45,8 @@ got_good {image} h (reads_good G i) e =
     rw (← q) j
 got_good h (reads_bad b) e = never (cc)
 
-pub check_bad : {image rows : List ℕ} {r : GrammarRead} (k : ℕ) → Reads image r rows → r ≡ GrammarRead.Bad k
-    → Checks image (Err (reasons.BadGrammar k))
+pub check_bad : {image rows : List ℕ} {a : Analysis} {r : GrammarRead} (k : ℕ) → Reads image r rows → r ≡ GrammarRead.Bad k
+    → Checks image a (Err (reasons.BadGrammar k))
 check_bad k (reads_good G i) e = never (cc)
 check_bad k (reads_bad {k = j} b) e = let q : j ≡ k = cc in unfit (bad_image (rw q at b))
 
@@ -63,7 +63,7 @@ module _ {image : List ℕ} (rows : List ℕ) (h : Head) (good : Image image (gr
     pub have_rows : Rowed rows h.t h.count
     have_rows = rowed rows h s k f
 
-    pub check_useless : (r : ℕ) → Idle s h.t h.n r → (r ≡ 0 → ⊥) → Checks image (Err (reasons.UselessSymbol r))
+    pub check_useless : {a : Analysis} (r : ℕ) → Idle s h.t h.n r → (r ≡ 0 → ⊥) → Checks image a (Err (reasons.UselessSymbol r))
     unfolding grammar_in
     check_useless r i z = unfit (useless good (idle_lowest k f i z))
 
@@ -73,11 +73,11 @@ module _ {image : List ℕ} (rows : List ℕ) (h : Head) (good : Image image (gr
 
     module _ (i : ℕ) (idle : Idle s h.t h.n i) (z : i ≡ 0) (cells : List ℕ) (low : ℕ)
         (listed : Listed rows s h.t h.count cells low) where
-      pub check_conflict : (low ≡ 0 → ⊥) → Checks image (Err (reasons.NotLl1 low))
+      pub check_conflict : {a : Analysis} → (low ≡ 0 → ⊥) → Checks image a (Err (reasons.NotLl1 low))
       check_conflict q =
           unfit (conflict good (no_useless idle z) (low_lowest rows h s k f (no_useless idle z) listed.conflict q))
 
-      pub check_fits : low ≡ 0 → Checks image (Ok (record { rows = rows; head = h; sets = s; cells = cells }))
+      pub check_fits : low ≡ 0 → Checks image (record { rows = rows; sets = s; cells = cells }) (Ok h)
       check_fits q =
           fits good (record {
             known = k;
@@ -87,20 +87,20 @@ module _ {image : List ℕ} (rows : List ℕ) (h : Head) (good : Image image (gr
 
 -- ---- from the check's answer
 
-module _ {image : List ℕ} where
-  pub checked_ready : {r : Result Checked Reason} (k : Checked) → Checks image r → r ≡ Ok k → Ready k.rows k.head k.sets k.cells
-  checked_ready k (fits {k = j} i y) e = let q : j ≡ k = cc in rw q at y
-  checked_ready k (unfit u) e = never (cc)
+module _ {image : List ℕ} {k : Analysis} where
+  pub checked_ready : {r : Result Head Reason} (h : Head) → Checks image k r → r ≡ Ok h → Ready k.rows h k.sets k.cells
+  checked_ready h (fits {h = j} i y) e = let q : j ≡ h = cc in rw q at y
+  checked_ready h (unfit u) e = never (cc)
 
-  pub checked_fit : {r : Result Checked Reason} (k : Checked) → Checks image r → r ≡ Ok k → Fit image (grammar_in k.rows k.head)
-  checked_fit k (fits {k = j} i y) e =
-      let q : j ≡ k = cc in
-      let f : Fit image (grammar_in j.rows j.head) = record { reads = i; prepared = y.prepared } in
+  pub checked_fit : {r : Result Head Reason} (h : Head) → Checks image k r → r ≡ Ok h → Fit image (grammar_in k.rows h)
+  checked_fit h (fits {h = j} i y) e =
+      let q : j ≡ h = cc in
+      let f : Fit image (grammar_in k.rows j) = record { reads = i; prepared = y.prepared } in
       rw q at f
-  checked_fit k (unfit u) e = never (cc)
+  checked_fit h (unfit u) e = never (cc)
 
   -- a call refuses with the check's reason
-  pub checked_refused : {B : Type 0} {r : Result Checked Reason} (next : Grammar → Call B) (before : B) (p : Reason) → Checks image r → r ≡ Err p
-      → Outcome (given image next) before (Refused p) before
+  pub checked_refused : {B : Type 0} {r : Result Head Reason} (next : Grammar → Call B) (before : B) (p : Reason)
+      → Checks image k r → r ≡ Err p → Outcome (given image next) before (Refused p) before
   checked_refused next before p (fits i y) e = never (cc)
   checked_refused next before p (unfit {p = q} u) e = let z : q ≡ p = cc in given_refused next (rw z at u)

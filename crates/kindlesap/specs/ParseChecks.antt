@@ -32,7 +32,7 @@ use Rattle.calls.specs.Checks.{Sized, area, wrong_syntax, no_room}
 use Rattle.calls.specs.Parse.{up_from, Stored, parse_counts, store_call, parse_with, parse_call}
 use Rattle.calls.proofs.CheckLaws.{given_passed}
 use Rattle.calls.specs.CheckLaws.{Fit}
-use Rattle.kindlesap.specs.declared.checks.Checked.{Checked}
+use Rattle.kindlesap.specs.declared.checks.Analysis.{Analysis}
 use Rattle.kindlesap.specs.GrammarChecks.{Checks, checked_refused}
 
 -- ---- slots 1, 2, ..
@@ -133,7 +133,7 @@ counted {b = b} m u e =
 
 -- replies 1 to 3
 pub parse_3 : (tables tokens : List ℕ) (room long : ℕ) (tree : List ℕ) {image : List ℕ}
-    {r : Result Checked Reason} (p : Reason) → Checks image r → r ≡ Err p
+    {k : Analysis} {r : Result Head Reason} (p : Reason) → Checks image k r → r ≡ Err p
     → Outcome (parse_call image tables tokens room long) tree (Refused p) tree
 parse_3 tables tokens room long tree p h e = checked_refused (parse_with tables tokens room long) tree p h e
 

@@ -21,7 +21,7 @@ use Rattle.calls.specs.Checks.{Sized, area, needed}
 use Rattle.calls.specs.ReadBack.{read_counts, read_back_with, read_back_call}
 use Rattle.calls.proofs.CheckLaws.{valid_of, valid_sized, valid_holds, given_passed}
 use Rattle.calls.specs.CheckLaws.{Fit}
-use Rattle.kindlesap.specs.declared.checks.Checked.{Checked}
+use Rattle.kindlesap.specs.declared.checks.Analysis.{Analysis}
 use Rattle.kindlesap.specs.GrammarChecks.{Checks, checked_refused}
 
 -- there are no more tokens than slots
@@ -33,8 +33,8 @@ tokens_fit rows head S tree nodes o m h e =
     omega (arith, e, y, l, h.count, few_tokens h.valid.tree)
 
 -- replies 1 to 3
-pub read_3 : (tree output : List ℕ) {image : List ℕ} {r : Result Checked Reason} (p : Reason)
-    → Checks image r → r ≡ Err p
+pub read_3 : (tree output : List ℕ) {image : List ℕ} {k : Analysis} {r : Result Head Reason} (p : Reason)
+    → Checks image k r → r ≡ Err p
     → Outcome (read_back_call image tree output) output (Refused p) output
 read_3 tree output p h e = checked_refused (read_back_with tree output) output p h e
 

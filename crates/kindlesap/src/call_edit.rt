@@ -4,6 +4,7 @@ ghost use Rattle.replies.specs.Reply.{reply_of};
 ghost use Rattle.calls.specs.Order.{Outcome};
 ghost use Rattle.calls.specs.Edit.{edit_call};
 
+use crate::checks::Analysis;
 use altering::{Change, Language};
 use plain::Tokens;
 use replies::{Counts, Reason};
@@ -22,16 +23,16 @@ pub fn edit_checked(
         (length work.old) tree.old) tree.old (reply_of result) tree.new }
 {
     // Replies 1, 2, 3
-    let checked = crate::checks::check(image)?;
-    let head = checked.head;
+    let mut found = Analysis::new();
+    let head = found.check(image)?;
     // Reply 4
-    if !tables::is_prepared(&checked.rows, head, &checked.sets, &checked.cells, tables) {
+    if !tables::is_prepared(&found.rows, head, &found.sets, &found.cells, tables) {
         return Err(Reason::WrongTables);
     }
     // Reply 5
     let slots = crate::checks::slots_of(tree.len()).ok_or(Reason::WrongTree)?;
     // Replies 5, 6
-    let nodes = editing::old_tree(tree, slots, &checked.rows, head, work)?;
+    let nodes = editing::old_tree(tree, slots, &found.rows, head, work)?;
     // Reply 7
     match plain::read_tokens(tokens, head.t) {
         Tokens::Good(_) => (),
@@ -44,7 +45,7 @@ pub fn edit_checked(
     }
     // Replies 9, 10
     let language = Language {
-        rows: &checked.rows,
+        rows: &found.rows,
         head,
         tables,
     };

@@ -10,6 +10,7 @@ ghost use Rattle.calls.specs.Order.{Outcome};
 ghost use Rattle.calls.specs.Checks.{Sized};
 ghost use Rattle.calls.specs.Parse.{store_call, parse_call};
 
+use crate::checks::Analysis;
 use altering::Language;
 use plain::{Parsed, Tokens};
 use replies::{Counts, Reason};
@@ -54,10 +55,10 @@ pub fn parse_checked(
         (length work.old) (length tree.old)) tree.old (reply_of result) tree.new }
 {
     // Replies 1, 2, 3
-    let checked = crate::checks::check(image)?;
-    let head = checked.head;
+    let mut found = Analysis::new();
+    let head = found.check(image)?;
     // Reply 4
-    if !tables::is_prepared(&checked.rows, head, &checked.sets, &checked.cells, tables) {
+    if !tables::is_prepared(&found.rows, head, &found.sets, &found.cells, tables) {
         return Err(Reason::WrongTables);
     }
     // Reply 5
@@ -74,7 +75,7 @@ pub fn parse_checked(
     }
     // Replies 9, 10
     let language = Language {
-        rows: &checked.rows,
+        rows: &found.rows,
         head,
         tables,
     };

@@ -4,6 +4,7 @@ ghost use Rattle.replies.specs.Reply.{reply_of};
 ghost use Rattle.calls.specs.Order.{Outcome};
 ghost use Rattle.calls.specs.Prepare.{prepare_call};
 
+use crate::checks::Analysis;
 use replies::{Counts, Reason};
 
 // The checks of prepare in their order, then the tables.
@@ -12,17 +13,12 @@ pub fn prepare_checked(image: &[u8], tables: &mut [u8]) -> Result<Counts, Reason
         (reply_of result) tables.new }
 {
     // Replies 1, 2, 3
-    let checked = crate::checks::check(image)?;
+    let mut found = Analysis::new();
+    let head = found.check(image)?;
     // Reply 4
     if tables.len() != tables::TABLES_SIZE {
         return Err(Reason::WrongTables);
     }
-    tables::write_tables(
-        &checked.rows,
-        checked.head,
-        &checked.sets,
-        &checked.cells,
-        tables,
-    );
+    tables::write_tables(&found.rows, head, &found.sets, &found.cells, tables);
     Ok(Counts::default())
 }

@@ -3,6 +3,7 @@ ghost use Rattle.replies.specs.Reply.{reply_of};
 ghost use Rattle.calls.specs.Order.{Outcome};
 ghost use Rattle.calls.specs.ReadBack.{read_back_call};
 
+use crate::checks::Analysis;
 use replies::{Counts, Reason};
 use walks::Walked;
 
@@ -12,11 +13,12 @@ pub fn read_back_checked(image: &[u8], tree: &[u8], output: &mut [u8]) -> Result
         (reply_of result) output.new }
 {
     // Replies 1, 2, 3
-    let checked = crate::checks::check(image)?;
+    let mut found = Analysis::new();
+    let head = found.check(image)?;
     // Reply 5
     let slots = crate::checks::slots_of(tree.len()).ok_or(Reason::WrongTree)?;
     let mut work = [0u8; walks::WALK_SIZE];
-    let o = match walks::read_tree(tree, slots, &checked.rows, checked.head, &mut work) {
+    let o = match walks::read_tree(tree, slots, &found.rows, head, &mut work) {
         Walked::Tree(o) => o,
         Walked::NoTree => return Err(Reason::WrongTree),
     };

@@ -8,33 +8,33 @@ use Rattle.kindlesap.specs.EditChecks.{edit_3, edit_4, edit_5, edit_5_6, edit_7,
 use borrow.Author.Rules.{rules}
 use Rattle.kindlesap.proofs.call_edit.edit_checked.Goals as goal
 
-pub returns-in_err-checked : goal.returns-in_err-checked
-returns-in_err-checked c =
+pub returns-in_err-head : goal.returns-in_err-head
+returns-in_err-head c =
     let p = err_from_is_err_and c.from_residual.result c.from_residual.ensures.1 in
-    rw (p.1, p.2) (edit_3 _ _ _ _ _ _ _ c.check.ensures c.in_err-checked.was)
+    rw (p.1, p.2) (edit_3 _ _ _ _ _ _ _ c.check.ensures c.in_err-head.was)
 
 pub is_prepared-requires : goal.is_prepared-requires
-is_prepared-requires c = checked_ready _ c.check.ensures c.in_ok-checked.was
+is_prepared-requires c = checked_ready _ c.check.ensures c.in_ok-head.was
 
 pub returns-then-not-is_prepared : goal.returns-then-not-is_prepared
 returns-then-not-is_prepared c =
-    let f = checked_fit _ c.check.ensures c.in_ok-checked.was in
+    let f = checked_fit _ c.check.ensures c.in_ok-head.was in
     edit_4 f _ _ _ _ _ _ (c.is_prepared.ensures.no c.if-not-is_prepared.true)
 
 pub returns-in_err-slots : goal.returns-in_err-slots
 returns-in_err-slots c =
-    let f = checked_fit _ c.check.ensures c.in_ok-checked.was in
+    let f = checked_fit _ c.check.ensures c.in_ok-head.was in
     let p = err_from_is_err_and c.from_residual-in_err-slots.result c.from_residual-in_err-slots.ensures.1 in
     rw (p.1, p.2) (edit_5 f _ _ _ _ _ _ (c.is_prepared.ensures.yes c.if-not-is_prepared.false) _ (area_wrong _ c.slots_of.ensures c.ok_or.ensures.value _ c.in_err-slots.was))
 
 pub old_tree-requires : goal.old_tree-requires
 old_tree-requires c =
-    let f = checked_fit _ c.check.ensures c.in_ok-checked.was in
+    let f = checked_fit _ c.check.ensures c.in_ok-head.was in
     (area_sized _ c.slots_of.ensures c.ok_or.ensures.value _ c.in_ok-slots.was, start_small _ _ f.prepared.formed)
 
 pub returns-in_err-nodes : goal.returns-in_err-nodes
 returns-in_err-nodes c =
-    let f = checked_fit _ c.check.ensures c.in_ok-checked.was in
+    let f = checked_fit _ c.check.ensures c.in_ok-head.was in
     let z = area_sized _ c.slots_of.ensures c.ok_or.ensures.value _ c.in_ok-slots.was in
     let p = err_from_is_err_and c.from_residual-in_err-nodes.result c.from_residual-in_err-nodes.ensures.1 in
     rw (p.1, p.2) (edit_5_6 f _ _ _ _ _ _ (c.is_prepared.ensures.yes c.if-not-is_prepared.false) _ z _ c.old_tree.ensures c.in_err-nodes.was)
@@ -42,20 +42,20 @@ returns-in_err-nodes c =
 pub returns-in-Bad : goal.returns-in-Bad
 unfolding grammar_in
 returns-in-Bad c =
-    let f = checked_fit _ c.check.ensures c.in_ok-checked.was in
+    let f = checked_fit _ c.check.ensures c.in_ok-head.was in
     let (h, l, k) = found_tree _ c.old_tree.ensures c.in_ok-nodes.was in
     edit_7 f _ _ _ _ _ _ (c.is_prepared.ensures.yes c.if-not-is_prepared.false) _ h.valid l _ c.read_tokens.ensures c.in-Bad.is
 
 pub returns-then-not-in_range : goal.returns-then-not-in_range
 unfolding grammar_in
 returns-then-not-in_range c =
-    let f = checked_fit _ c.check.ensures c.in_ok-checked.was in
+    let f = checked_fit _ c.check.ensures c.in_ok-head.was in
     let (h, l, k) = found_tree _ c.old_tree.ensures c.in_ok-nodes.was in
     edit_8 f _ _ _ _ _ _ (c.is_prepared.ensures.yes c.if-not-is_prepared.false) _ h.valid l _ c.read_tokens.ensures c.in-Good.is _ c.get16-old_tokens.ensures.0 (c.in_range.ensures.no c.if-not-in_range.true)
 
 pub renew-requires : goal.renew-requires
 renew-requires c =
-    let f = checked_fit _ c.check.ensures c.in_ok-checked.was in
+    let f = checked_fit _ c.check.ensures c.in_ok-head.was in
     let (h, l, k) = found_tree _ c.old_tree.ensures c.in_ok-nodes.was in
     let i = c.in_range.ensures.yes c.if-not-in_range.false in
     (f.prepared, c.is_prepared.ensures.yes c.if-not-is_prepared.false, h, (counted _ c.read_tokens.ensures c.in-Good.is).sentence, search rules, k)
@@ -63,6 +63,6 @@ renew-requires c =
 pub returns : goal.returns
 unfolding grammar_in
 returns c =
-    let f = checked_fit _ c.check.ensures c.in_ok-checked.was in
+    let f = checked_fit _ c.check.ensures c.in_ok-head.was in
     let (h, l, k) = found_tree _ c.old_tree.ensures c.in_ok-nodes.was in
     edit_rest f _ _ _ _ _ _ (c.is_prepared.ensures.yes c.if-not-is_prepared.false) _ h.valid l _ c.read_tokens.ensures c.in-Good.is _ c.get16-old_tokens.ensures.0 (c.in_range.ensures.yes c.if-not-in_range.false) _ _ c.renew.ensures

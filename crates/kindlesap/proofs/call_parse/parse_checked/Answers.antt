@@ -6,22 +6,22 @@ use Rattle.kindlesap.specs.ParseChecks.{parse_3, parse_4, parse_5, parse_6, pars
 use borrow.Author.Rules.{rules}
 use Rattle.kindlesap.proofs.call_parse.parse_checked.Goals as goal
 
-pub returns-in_err-checked : goal.returns-in_err-checked
-returns-in_err-checked c =
+pub returns-in_err-head : goal.returns-in_err-head
+returns-in_err-head c =
     let p = err_from_is_err_and c.from_residual.result c.from_residual.ensures.1 in
-    rw (p.1, p.2) (parse_3 _ _ _ _ _ _ c.check.ensures c.in_err-checked.was)
+    rw (p.1, p.2) (parse_3 _ _ _ _ _ _ c.check.ensures c.in_err-head.was)
 
 pub is_prepared-requires : goal.is_prepared-requires
-is_prepared-requires c = checked_ready _ c.check.ensures c.in_ok-checked.was
+is_prepared-requires c = checked_ready _ c.check.ensures c.in_ok-head.was
 
 pub returns-then-not-is_prepared : goal.returns-then-not-is_prepared
 returns-then-not-is_prepared c =
-    let f = checked_fit _ c.check.ensures c.in_ok-checked.was in
+    let f = checked_fit _ c.check.ensures c.in_ok-head.was in
     parse_4 f _ _ _ _ _ (c.is_prepared.ensures.no c.if-not-is_prepared.true)
 
 pub returns-in_err-slots : goal.returns-in_err-slots
 returns-in_err-slots c =
-    let f = checked_fit _ c.check.ensures c.in_ok-checked.was in
+    let f = checked_fit _ c.check.ensures c.in_ok-head.was in
     let p = err_from_is_err_and c.from_residual-in_err-slots.result c.from_residual-in_err-slots.ensures.1 in
     rw (p.1, p.2) (parse_5 f _ _ _ _ _ (c.is_prepared.ensures.yes c.if-not-is_prepared.false) _ (area_wrong _ c.slots_of.ensures c.ok_or.ensures.value _ c.in_err-slots.was))
 
@@ -34,26 +34,26 @@ overflow_mul-need c =
 
 pub returns-then-work-need : goal.returns-then-work-need
 returns-then-work-need c =
-    let f = checked_fit _ c.check.ensures c.in_ok-checked.was in
+    let f = checked_fit _ c.check.ensures c.in_ok-head.was in
     let z = area_sized _ c.slots_of.ensures c.ok_or.ensures.value _ c.in_ok-slots.was in
     parse_6 f _ _ _ _ _ (c.is_prepared.ensures.yes c.if-not-is_prepared.false) _ z _ (search rules) (search rules)
 
 pub returns-in-Bad : goal.returns-in-Bad
 unfolding grammar_in
 returns-in-Bad c =
-    let f = checked_fit _ c.check.ensures c.in_ok-checked.was in
+    let f = checked_fit _ c.check.ensures c.in_ok-head.was in
     let z = area_sized _ c.slots_of.ensures c.ok_or.ensures.value _ c.in_ok-slots.was in
     parse_7 f _ _ _ _ _ (c.is_prepared.ensures.yes c.if-not-is_prepared.false) _ z (search rules) _ c.read_tokens.ensures c.in-Bad.is
 
 pub parse_tokens-requires : goal.parse_tokens-requires
 parse_tokens-requires c =
-    let f = checked_fit _ c.check.ensures c.in_ok-checked.was in
+    let f = checked_fit _ c.check.ensures c.in_ok-head.was in
     let z = area_sized _ c.slots_of.ensures c.ok_or.ensures.value _ c.in_ok-slots.was in
     (grounded _ _ _ _ _ f.prepared (c.is_prepared.ensures.yes c.if-not-is_prepared.false) c.read_tokens.ensures c.in-Good.is, z, search rules)
 
 pub returns : goal.returns
 unfolding grammar_in
 returns c =
-    let f = checked_fit _ c.check.ensures c.in_ok-checked.was in
+    let f = checked_fit _ c.check.ensures c.in_ok-head.was in
     let z = area_sized _ c.slots_of.ensures c.ok_or.ensures.value _ c.in_ok-slots.was in
     parse_rest f _ _ _ _ _ (c.is_prepared.ensures.yes c.if-not-is_prepared.false) _ z (search rules) _ c.read_tokens.ensures c.in-Good.is _ _ c.parse_tokens.ensures
