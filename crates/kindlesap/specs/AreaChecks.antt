@@ -1,31 +1,24 @@
 -- The laws that the proofs of the calls cite: the slots of a tree area, by its length.
-use Rattle.std.specs.Prelude.{ℕ, ◌+◌, ◌-◌, ◌/◌, ◌%◌, ◌≤◌, ◌<◌, ◌≡◌, refl}
-use Rattle.std.proofs.Common.{arith}
-use Rattle.trees.specs.Area.{header_size, slot_size, max_slots}
+use Rattle.std.specs.Prelude.{ℕ, ◌≡◌, Option, Some, None, Result, Ok, Err}
+use Rattle.std.specs.Option.{ok_or}
+use Rattle.base.specs.Choose.{never}
+use Rattle.replies.specs.declared.Reason.{Reason}
 use Rattle.replies.specs.declared.Reason.TheVariants.{WrongTree}
 use Rattle.calls.specs.Order.{exactly}
 use Rattle.calls.specs.Checks.{Sized, area}
 
--- the slots of an area of this size; 0 where the size is wrong
-pub record Slotted (size slots : ℕ) : Type 0 where
-  pub right : (slots ≡ 0 → ⊥) → Sized slots size
-  pub wrong : slots ≡ 0 → (S : ℕ) → Sized S size → ⊥
+-- the slots of an area of this size; none where the size is wrong
+abbrev pub Slotted : ℕ → Option ℕ → Type 0
+Slotted size (Some S) = Sized S size
+Slotted size None = (S : ℕ) → Sized S size → ⊥
 
-pub slotted_short : (n : ℕ) → n < header_size + slot_size → Slotted n 0
-slotted_short n l = record { right = λ z. absurd (z refl); wrong = λ _ S z. omega (arith, z.some, z.long) }
+-- ---- of an area, or else reply 5
+module _ {size : ℕ} {r : Result ℕ Reason} where
+  pub area_sized : (o : Option ℕ) → Slotted size o → r ≡ ok_or o WrongTree → (S : ℕ) → r ≡ Ok S → Sized S size
+  area_sized (Some T) z e S q = let t : T ≡ S = cc in rw t at z
+  area_sized None n e S q = never (cc)
 
-pub slotted_odd : (n : ℕ) → header_size + slot_size ≤ n → ((n - header_size) % slot_size ≡ 0 → ⊥) → Slotted n 0
-slotted_odd n l m = record { right = λ z. absurd (z refl); wrong = λ _ S z. m (let e = z.long in omega arith) }
-
-pub slotted_long : (n S : ℕ) → header_size + slot_size ≤ n → S ≡ (n - header_size) / slot_size → max_slots < S → Slotted n 0
-slotted_long n S l q m = record { right = λ z. absurd (z refl); wrong = λ _ T z. let e = z.long in let f = z.few in omega arith }
-
-pub slotted_right : (n S : ℕ) → header_size + slot_size ≤ n → (n - header_size) % slot_size ≡ 0
-    → S ≡ (n - header_size) / slot_size → S ≤ max_slots → Slotted n S
-slotted_right n S l z q m = record { right = λ _. record { some = omega arith; few = m; long = omega arith }; wrong = λ w. absurd (omega arith) }
-
-pub ruleset slotting = (slotted_short, slotted_odd, slotted_long, slotted_right)
-
--- reply 5 of a wrong size
-pub area_wrong : {size slots : ℕ} → Slotted size slots → slots ≡ 0 → (area size).Fail WrongTree
-area_wrong h z = exactly (h.wrong z)
+  pub area_wrong : (o : Option ℕ) → Slotted size o → r ≡ ok_or o WrongTree → (p : Reason) → r ≡ Err p
+      → (p ≡ WrongTree) × (area size).Fail WrongTree
+  area_wrong (Some T) z e p q = never (cc)
+  area_wrong None n e p q = (cc, exactly n)

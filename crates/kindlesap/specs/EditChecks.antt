@@ -1,16 +1,19 @@
 -- The laws that the proof of edit cites: what each check on the way says of the call.
-use Rattle.std.specs.Prelude.{ℕ, ◌+◌, ◌*◌, ◌≤◌, ◌<◌, ◌≡◌, List, length}
+use Rattle.std.specs.Prelude.{ℕ, ◌+◌, ◌*◌, ◌≤◌, ◌<◌, ◌≡◌, refl, Result, Ok, Err, List, length}
 use Rattle.std.proofs.Common.{arith}
 use Rattle.base.specs.Bytes.{get16}
+use Rattle.base.specs.Choose.{never}
 use Rattle.grammar.specs.Grammar.{Grammar}
 use Rattle.grammar.specs.Forest.{yield}
 use Rattle.tables.specs.Tables.{Tables}
 use Rattle.trees.specs.Area.{work_areas, tokens_place, Valid}
-use Rattle.plain.specs.Tokens.{tokens_from}
-use Rattle.plain.specs.Outcome.{Told, is_good, is_bad}
+use Rattle.plain.specs.Outcome.{Told, is_bad}
 use Rattle.plain.specs.declared.Tokens.{Tokens}
 use Rattle.edits.specs.Keeping.{edit_of}
-use Rattle.editing.specs.Editing.{tokens_counted, Renews}
+use Rattle.altering.specs.Outcome.{tokens_in}
+use Rattle.editing.specs.Editing.{Finds, finds_tree, finds_none, finds_short, tokens_counted, Renews}
+use Rattle.replies.specs.Reply.{reply_of}
+use Rattle.replies.specs.declared.Counts.{Counts}
 use Rattle.replies.specs.declared.Reply.{Reply}
 use Rattle.replies.specs.declared.Reason.{Reason}
 use Rattle.replies.specs.declared.Reason.TheVariants as reasons
@@ -20,12 +23,14 @@ use Rattle.calls.specs.Checks.{Sized, area}
 use Rattle.calls.specs.Edit.{edit_with, edit_call}
 use Rattle.calls.proofs.CheckLaws.{valid_of, valid_sized, valid_holds, given_passed}
 use Rattle.calls.specs.CheckLaws.{Fit}
-use Rattle.kindlesap.specs.declared.checks.GrammarChecked.{GrammarChecked}
+use Rattle.grammar.specs.declared.Head.{Head}
+use Rattle.kindlesap.specs.declared.checks.Analysis.{Analysis}
 use Rattle.kindlesap.specs.GrammarChecks.{Checks, checked_refused}
+use Rattle.kindlesap.specs.ParseChecks.{counted}
 
 -- replies 1 to 3
-pub edit_3 : (tables tokens : List ℕ) (place removed room : ℕ) (tree : List ℕ) {image rows s cells : List ℕ}
-    {r : GrammarChecked} (p : Reason) → Checks image rows s cells r → r ≡ GrammarChecked.Unfit p
+pub edit_3 : (tables tokens : List ℕ) (place removed room : ℕ) (tree : List ℕ) {image : List ℕ}
+    {k : Analysis} {r : Result Head Reason} (p : Reason) → Checks image k r → r ≡ Err p
     → Outcome (edit_call image tables tokens place removed room tree) tree (Refused p) tree
 edit_3 tables tokens place removed room tree p h e =
     checked_refused (edit_with tables tokens place removed room tree) tree p h e
@@ -41,20 +46,21 @@ module _ {image : List ℕ} {G : Grammar} (f : Fit image G) (tables tokens : Lis
   edit_4 n = by_3 (refused (exactly n))
 
   module _ (t : Tables G tables) where
-    pub edit_5 : (area (length tree)).Fail reasons.WrongTree
-        → Outcome (edit_call image tables tokens place removed room tree) tree (Refused reasons.WrongTree) tree
-    edit_5 n = by_3 (passed t (refused n))
+    pub edit_5 : (p : Reason) → (p ≡ reasons.WrongTree) × (area (length tree)).Fail reasons.WrongTree
+        → Outcome (edit_call image tables tokens place removed room tree) tree (Refused p) tree
+    edit_5 p n = rw n.0 (by_3 (passed t (refused n.1)))
 
-    pub edit_none : (S : ℕ) → Sized S (length tree) → (Valid G S tree → ⊥)
-        → Outcome (edit_call image tables tokens place removed room tree) tree (Refused reasons.WrongTree) tree
-    edit_none S z n = by_3 (passed t (passed z (refused (exactly (λ _ h. n (valid_of z h))))))
+    pub edit_5_6 : (S : ℕ) → Sized S (length tree) → {work : List ℕ} {r : Result ℕ Reason} (p : Reason)
+        → Finds G S tree room work r → r ≡ Err p → Outcome (edit_call image tables tokens place removed room tree) tree (Refused p) tree
+    edit_5_6 S z p (finds_tree h l m) e = never (cc)
+    edit_5_6 S z p (finds_none n) e =
+        let q : p ≡ reasons.WrongTree = cc in
+        rw q (by_3 (passed t (passed z (refused (exactly (λ _ h. n (valid_of z h)))))))
+    edit_5_6 S z p (finds_short v l) e =
+        let q : p ≡ reasons.ShortWork (work_areas * length tree) = cc in
+        rw q (by_3 (passed t (passed (valid_sized v) (passed (valid_holds v) (refused (exactly (λ m. omega (arith, l, m))))))))
 
     module _ (S : ℕ) (v : Valid G S tree) where
-      pub edit_6 : (need : ℕ) → need ≡ work_areas * length tree → room < work_areas * length tree
-          → Outcome (edit_call image tables tokens place removed room tree) tree (Refused (reasons.ShortWork need)) tree
-      edit_6 need e l =
-          rw e (by_3 (passed t (passed (valid_sized v) (passed (valid_holds v) (refused (exactly (λ m. omega (arith, l, m))))))))
-
       module _ (l : work_areas * length tree ≤ room) where
         pub edit_7 : {r : Tokens} (k : ℕ) → Told G.t tokens r → r ≡ Tokens.Bad k
             → Outcome (edit_call image tables tokens place removed room tree) tree (Refused (reasons.BadToken k)) tree
@@ -69,10 +75,10 @@ module _ {image : List ℕ} {G : Grammar} (f : Fit image G) (tables tokens : Lis
           pub edit_8 : (place + removed ≤ k → ⊥)
               → Outcome (edit_call image tables tokens place removed room tree) tree (Refused (reasons.BeyondTokens k)) tree
           edit_8 o =
-              rw count_is (by_3 (passed t (passed (valid_sized v) (passed (valid_holds v) (passed l (passed (is_good m u e).sentence (refused (exactly (λ i. o (omega (arith, i, count_is)))))))))))
+              rw count_is (by_3 (passed t (passed (valid_sized v) (passed (valid_holds v) (passed l (passed (counted m u e).sentence (refused (exactly (λ i. o (omega (arith, i, count_is)))))))))))
 
-          pub edit_rest : place + removed ≤ k → (reply : Reply) (tree' : List ℕ)
-              → Renews G S (edit_of place removed (tokens_from tokens m 0)) tree reply tree'
-              → Outcome (edit_call image tables tokens place removed room tree) tree reply tree'
-          edit_rest o reply tree' h =
-              by_3 (passed t (passed (valid_sized v) (passed (valid_holds v) (passed l (passed (is_good m u e).sentence (passed (omega (arith, o, count_is)) (h.all v)))))))
+          pub edit_rest : place + removed ≤ k → (r : Result Counts Reason) (tree' : List ℕ)
+              → Renews G S (edit_of place removed (tokens_in tokens)) tree r tree'
+              → Outcome (edit_call image tables tokens place removed room tree) tree (reply_of r) tree'
+          edit_rest o r tree' h =
+              by_3 (passed t (passed (valid_sized v) (passed (valid_holds v) (passed l (passed (counted m u e).sentence (passed (omega (arith, o, count_is)) (h.all v)))))))

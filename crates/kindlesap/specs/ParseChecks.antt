@@ -1,6 +1,6 @@
 -- The laws that the proof of parse cites: an accepted sentence's node list is its derivation tree in preorder, and is
 -- laid out so; what each check on the way says of the call.
-use Rattle.std.specs.Prelude.{ℕ, zero, suc, ◌+◌, ◌*◌, ◌≤◌, ◌<◌, ◌≡◌, refl, length}
+use Rattle.std.specs.Prelude.{ℕ, zero, suc, ◌+◌, ◌*◌, ◌/◌, ◌≤◌, ◌<◌, ◌≡◌, refl, Result, Err, length}
 use Rattle.std.proofs.Common.{sym, ap, ◌∙◌, arith}
 use mathlib.Core.List.{List, [], ◌∷◌, Memᴰ}
 use Rattle.grammar.specs.Each.{Each}
@@ -15,12 +15,13 @@ use Rattle.trees.specs.Nodes.{Node, preorder, lists_forest, build, Formed, build
 use Rattle.trees.specs.Coded.{nodes_from, length_nodes, arity_in}
 use Rattle.trees.specs.Spread.{slots_of, Spread, slots_build, size_build}
 use Rattle.plain.proofs.Exactly.{accepted_exactly}
-use Rattle.plain.specs.Tokens.{tokens_from}
+use Rattle.plain.specs.Tokens.{token_size, tokens_from}
 use Rattle.plain.specs.Text.{parse_size}
 use Rattle.plain.specs.Machine.{Ground, Numbered, Done}
-use Rattle.plain.specs.Outcome.{Told, is_good, is_bad, Ran, is_wrong, is_full}
+use Rattle.plain.specs.Outcome.{Counted, Told, is_good, is_bad, Ran, is_wrong, is_full}
 use Rattle.plain.specs.declared.Parsed.{Parsed}
 use Rattle.plain.specs.declared.Tokens.{Tokens}
+use Rattle.altering.specs.Outcome.{tokens_in}
 use Rattle.altering.specs.Treed.{arity_rows}
 use Rattle.replies.specs.declared.Reply.{Reply}
 use Rattle.replies.specs.declared.Reason.{Reason}
@@ -31,7 +32,7 @@ use Rattle.calls.specs.Checks.{Sized, area, wrong_syntax, no_room}
 use Rattle.calls.specs.Parse.{up_from, Stored, parse_counts, store_call, parse_with, parse_call}
 use Rattle.calls.proofs.CheckLaws.{given_passed}
 use Rattle.calls.specs.CheckLaws.{Fit}
-use Rattle.kindlesap.specs.declared.checks.GrammarChecked.{GrammarChecked}
+use Rattle.kindlesap.specs.declared.checks.Analysis.{Analysis}
 use Rattle.kindlesap.specs.GrammarChecks.{Checks, checked_refused}
 
 -- ---- slots 1, 2, ..
@@ -121,11 +122,18 @@ module _ {G : Grammar} {S : ℕ} {b : List ℕ} {m : ℕ} {work : List ℕ} {r :
 pub room_for : (S long room : ℕ) → Sized S long → work_areas * long ≤ room → parse_size S (S + 1) ≤ room
 room_for S long room z l = omega (arith, z.long, l)
 
+-- good tokens fill their bytes
+pub counted : {t : ℕ} {b : List ℕ} (m : ℕ) {r : Tokens} → Told t b r → r ≡ Tokens.Good m → Counted t b (length b / token_size)
+counted {b = b} m u e =
+    let c = is_good m u e in
+    let q : m ≡ length b / token_size = omega (arith, c.long) in
+    rw q at c
+
 -- ---- for each check: the outcome of the call where it refuses, and the rest of the call where it passes
 
 -- replies 1 to 3
-pub parse_3 : (tables tokens : List ℕ) (room long : ℕ) (tree : List ℕ) {image rows s cells : List ℕ}
-    {r : GrammarChecked} (p : Reason) → Checks image rows s cells r → r ≡ GrammarChecked.Unfit p
+pub parse_3 : (tables tokens : List ℕ) (room long : ℕ) (tree : List ℕ) {image : List ℕ}
+    {k : Analysis} {r : Result Head Reason} (p : Reason) → Checks image k r → r ≡ Err p
     → Outcome (parse_call image tables tokens room long) tree (Refused p) tree
 parse_3 tables tokens room long tree p h e = checked_refused (parse_with tables tokens room long) tree p h e
 
@@ -139,9 +147,9 @@ module _ {image : List ℕ} {G : Grammar} (f : Fit image G) (tables tokens : Lis
   parse_4 n = by_3 (refused (exactly n))
 
   module _ (t : Tables G tables) where
-    pub parse_5 : (area long).Fail reasons.WrongTree
-        → Outcome (parse_call image tables tokens room long) tree (Refused reasons.WrongTree) tree
-    parse_5 n = by_3 (passed t (refused n))
+    pub parse_5 : (p : Reason) → (p ≡ reasons.WrongTree) × (area long).Fail reasons.WrongTree
+        → Outcome (parse_call image tables tokens room long) tree (Refused p) tree
+    parse_5 p n = rw n.0 (by_3 (passed t (refused n.1)))
 
     module _ (S : ℕ) (z : Sized S long) where
       pub parse_6 : (need : ℕ) → need ≡ work_areas * long → room < need
@@ -154,13 +162,13 @@ module _ {image : List ℕ} {G : Grammar} (f : Fit image G) (tables tokens : Lis
         parse_7 k u e = by_3 (passed t (passed z (passed l (refused (at (is_bad k u e))))))
 
         pub parse_rest : (m : ℕ) {r : Tokens} → Told G.t tokens r → r ≡ Tokens.Good m
-            → (reply : Reply) (tree' : List ℕ) → Outcome (store_call G S (tokens_from tokens m 0)) tree reply tree'
+            → (reply : Reply) (tree' : List ℕ) → Outcome (store_call G S (tokens_in tokens)) tree reply tree'
             → Outcome (parse_call image tables tokens room long) tree reply tree'
-        parse_rest m u e reply tree' o = by_3 (passed t (passed z (passed l (passed (is_good m u e).sentence o))))
+        parse_rest m u e reply tree' o = by_3 (passed t (passed z (passed l (passed (counted m u e).sentence o))))
 
 -- what a parse is given, from the checks before it
 pub grounded : (rows : List ℕ) (head : Head) (tables b : List ℕ) (m : ℕ) {r : Tokens} → Prepared (grammar_in rows head)
     → Tables (grammar_in rows head) tables → Told head.t b r → r ≡ Tokens.Good m
-    → Ground rows head tables b m
+    → Ground rows head tables b (length b / token_size)
 grounded rows head tables b m p h u e =
-    let c = is_good m u e in record { prepared = p; tables = h; long = c.long; kinds = c.kinds }
+    let c = counted m u e in record { prepared = p; tables = h; long = c.long; kinds = c.kinds }

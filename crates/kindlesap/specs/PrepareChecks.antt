@@ -1,5 +1,5 @@
 -- The laws that the proof of prepare cites: what each check on the way says of the call.
-use Rattle.std.specs.Prelude.{ℕ, ◌≡◌, refl, List}
+use Rattle.std.specs.Prelude.{ℕ, ◌≡◌, refl, Result, Err, List}
 use Rattle.grammar.specs.Grammar.{Grammar}
 use Rattle.tables.specs.Tables.{tables_size, Tables}
 use Rattle.replies.specs.Reply.{no_counts}
@@ -10,12 +10,13 @@ use Rattle.calls.specs.Order.{Outcome, refused, passed, accepting, exactly}
 use Rattle.calls.specs.Prepare.{prepare_with, prepare_call}
 use Rattle.calls.proofs.CheckLaws.{given_passed}
 use Rattle.calls.specs.CheckLaws.{Fit}
-use Rattle.kindlesap.specs.declared.checks.GrammarChecked.{GrammarChecked}
+use Rattle.grammar.specs.declared.Head.{Head}
+use Rattle.kindlesap.specs.declared.checks.Analysis.{Analysis}
 use Rattle.kindlesap.specs.GrammarChecks.{Checks, checked_refused}
 
 -- replies 1 to 3
-pub prepare_3 : (size : ℕ) (tables : List ℕ) {image rows s cells : List ℕ} {r : GrammarChecked} (p : Reason)
-    → Checks image rows s cells r → r ≡ GrammarChecked.Unfit p
+pub prepare_3 : (size : ℕ) (tables : List ℕ) {image : List ℕ} {k : Analysis} {r : Result Head Reason} (p : Reason)
+    → Checks image k r → r ≡ Err p
     → Outcome (prepare_call image size) tables (Refused p) tables
 prepare_3 size tables p h e = checked_refused (prepare_with size) tables p h e
 

@@ -1,5 +1,5 @@
 -- The laws that the proof of read back cites: what each check on the way says of the call.
-use Rattle.std.specs.Prelude.{ℕ, ◌-◌, ◌*◌, ◌≤◌, ◌<◌, ◌≡◌, List, ◌++◌, length, take, drop}
+use Rattle.std.specs.Prelude.{ℕ, ◌-◌, ◌*◌, ◌≤◌, ◌<◌, ◌≡◌, Result, Err, List, ◌++◌, length, take, drop}
 use Rattle.std.proofs.Common.{ap, take_all, arith}
 use Rattle.base.specs.Bytes.{get16}
 use Rattle.grammar.specs.Forest.{Token, yield}
@@ -21,7 +21,7 @@ use Rattle.calls.specs.Checks.{Sized, area, needed}
 use Rattle.calls.specs.ReadBack.{read_counts, read_back_with, read_back_call}
 use Rattle.calls.proofs.CheckLaws.{valid_of, valid_sized, valid_holds, given_passed}
 use Rattle.calls.specs.CheckLaws.{Fit}
-use Rattle.kindlesap.specs.declared.checks.GrammarChecked.{GrammarChecked}
+use Rattle.kindlesap.specs.declared.checks.Analysis.{Analysis}
 use Rattle.kindlesap.specs.GrammarChecks.{Checks, checked_refused}
 
 -- there are no more tokens than slots
@@ -33,8 +33,8 @@ tokens_fit rows head S tree nodes o m h e =
     omega (arith, e, y, l, h.count, few_tokens h.valid.tree)
 
 -- replies 1 to 3
-pub read_3 : (tree output : List ℕ) {image rows s cells : List ℕ} {r : GrammarChecked} (p : Reason)
-    → Checks image rows s cells r → r ≡ GrammarChecked.Unfit p
+pub read_3 : (tree output : List ℕ) {image : List ℕ} {k : Analysis} {r : Result Head Reason} (p : Reason)
+    → Checks image k r → r ≡ Err p
     → Outcome (read_back_call image tree output) output (Refused p) output
 read_3 tree output p h e = checked_refused (read_back_with tree output) output p h e
 
@@ -44,9 +44,9 @@ module _ (rows : List ℕ) (head : Head) {image : List ℕ} (f : Fit image (gram
       → Outcome (read_back_call image tree output) output r output'
   by_3 o = given_passed (read_back_with tree output) f o
 
-  pub read_5 : (area (length tree)).Fail reasons.WrongTree
-      → Outcome (read_back_call image tree output) output (Refused reasons.WrongTree) output
-  read_5 n = by_3 (refused n)
+  pub read_5 : (p : Reason) → (p ≡ reasons.WrongTree) × (area (length tree)).Fail reasons.WrongTree
+      → Outcome (read_back_call image tree output) output (Refused p) output
+  read_5 p n = rw n.0 (by_3 (refused n.1))
 
   pub read_none : (S : ℕ) → Sized S (length tree) → (Valid (grammar_in rows head) S tree → ⊥)
       → Outcome (read_back_call image tree output) output (Refused reasons.WrongTree) output

@@ -1,12 +1,13 @@
 // The call edit, but for zeroing the work area.
 ghost use Rattle.std.specs.Prelude.{length};
+ghost use Rattle.replies.specs.Reply.{reply_of};
 ghost use Rattle.calls.specs.Order.{Outcome};
 ghost use Rattle.calls.specs.Edit.{edit_call};
 
-use crate::checks::GrammarChecked;
-use editing::OldTree;
+use crate::checks::Analysis;
+use altering::{Change, Language};
 use plain::Tokens;
-use replies::{Reason, Reply};
+use replies::{Counts, Reason};
 
 // The checks of edit in their order, then the new tree.
 pub fn edit_checked(
@@ -17,47 +18,41 @@ pub fn edit_checked(
     removed: u32,
     tokens: &[u8],
     work: &mut [u8],
-) -> Reply
+) -> Result<Counts, Reason>
     ensures { Outcome (edit_call image.now tables.now tokens.now place removed
-        (length work.old) tree.old) tree.old result tree.new }
+        (length work.old) tree.old) tree.old (reply_of result) tree.new }
 {
-    let mut rows = [0u8; grammar::ROWS_SIZE];
-    let mut sets = [0u32; sets::SETS_SIZE];
-    let mut cells = [0u8; tables::PREDICTIONS_SIZE];
     // Replies 1, 2, 3
-    let head = match crate::checks::check_grammar(image, &mut rows, &mut sets, &mut cells) {
-        GrammarChecked::Fit(head) => head,
-        GrammarChecked::Unfit(reason) => return Reply::Refused(reason),
-    };
+    let mut found = Analysis::new();
+    let head = found.check(image)?;
     // Reply 4
-    if !tables::is_prepared(&rows, head, &sets, &cells, tables) {
-        return Reply::Refused(Reason::WrongTables);
+    if !tables::is_prepared(&found.rows, head, &found.sets, &found.cells, tables) {
+        return Err(Reason::WrongTables);
     }
     // Reply 5
-    let slots = crate::checks::slots_of(tree.len());
-    if slots == 0 {
-        return Reply::Refused(Reason::WrongTree);
-    }
+    let slots = crate::checks::slots_of(tree.len()).ok_or(Reason::WrongTree)?;
     // Replies 5, 6
-    let nodes = match editing::old_tree(tree, slots, &rows, head, work) {
-        OldTree::Tree(nodes) => nodes,
-        OldTree::NoTree => return Reply::Refused(Reason::WrongTree),
-        OldTree::ShortWork => {
-            return Reply::Refused(Reason::ShortWork((trees::WORK_AREAS * tree.len()) as u64));
-        }
-    };
+    let nodes = editing::old_tree(tree, slots, &found.rows, head, work)?;
     // Reply 7
-    let m = match plain::read_tokens(tokens, head.t) {
-        Tokens::Good(m) => m,
-        Tokens::Bad(bad) => return Reply::Refused(Reason::BadToken(bad as u64)),
-    };
+    match plain::read_tokens(tokens, head.t) {
+        Tokens::Good(_) => (),
+        Tokens::Bad(bad) => return Err(Reason::BadToken(bad as u64)),
+    }
     // Reply 8
     let old_tokens = base::get16(tree, trees::TOKENS_PLACE);
     if !editing::in_range(place, removed, old_tokens) {
-        return Reply::Refused(Reason::BeyondTokens(old_tokens as u64));
+        return Err(Reason::BeyondTokens(old_tokens as u64));
     }
     // Replies 9, 10
-    editing::renew(
-        tree, slots, nodes, place, removed, tokens, m, tables, &rows, head, work,
-    )
+    let language = Language {
+        rows: &found.rows,
+        head,
+        tables,
+    };
+    let change = Change {
+        place: place as usize,
+        removed: removed as usize,
+        tokens,
+    };
+    editing::renew(language, slots, nodes, change, work, tree)
 }

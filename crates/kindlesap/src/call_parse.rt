@@ -1,47 +1,45 @@
 // The call parse, but for zeroing the work area.
-ghost use Rattle.std.specs.Prelude.{◌*◌, ◌≤◌, length};
+ghost use Rattle.std.specs.Prelude.{◌*◌, ◌/◌, ◌≤◌, length};
 ghost use Rattle.grammar.specs.Rows.{grammar_in};
 ghost use Rattle.trees.specs.Area.{work_areas};
-ghost use Rattle.plain.specs.Tokens.{tokens_from};
+ghost use Rattle.plain.specs.Tokens.{token_size};
 ghost use Rattle.plain.specs.Machine.{Ground};
+ghost use Rattle.altering.specs.Outcome.{tokens_in};
+ghost use Rattle.replies.specs.Reply.{reply_of};
 ghost use Rattle.calls.specs.Order.{Outcome};
 ghost use Rattle.calls.specs.Checks.{Sized};
 ghost use Rattle.calls.specs.Parse.{store_call, parse_call};
 
-use crate::checks::GrammarChecked;
-use grammar::Head;
+use crate::checks::Analysis;
+use altering::Language;
 use plain::{Parsed, Tokens};
-use replies::{Counts, Reason, Reply};
+use replies::{Counts, Reason};
 
-// Replies 9 and 10, or the tree of m good tokens.
+// Replies 9 and 10, or the tree of good tokens.
 fn parse_tokens(
+    language: Language,
     tokens: &[u8],
-    m: usize,
-    tables: &[u8],
-    rows: &[u8],
-    head: Head,
     slots: usize,
     tree: &mut [u8],
     work: &mut [u8],
-) -> Reply
-    requires { Ground rows.now head tables.now tokens.now m × Sized slots (length tree.old)
-        × (work_areas * length tree.old ≤ length work.old) }
-    ensures { Outcome (store_call (grammar_in rows.now head) slots
-        (tokens_from tokens.now m 0)) tree.old result tree.new }
+) -> Result<Counts, Reason>
+    requires { Ground language.rows.now language.head language.tables.now tokens.now (length tokens.now / token_size)
+        × Sized slots (length tree.old) × (work_areas * length tree.old ≤ length work.old) }
+    ensures { Outcome (store_call (grammar_in language.entry.rows.now language.entry.head) slots
+        (tokens_in tokens.now)) tree.old (reply_of result) tree.new }
 {
+    let Language { rows, head, tables } = language;
+    let m = tokens.len() / plain::TOKEN_SIZE;
     let o = match parsing::parse_lent(tokens, m, tables, rows, head, slots, work) {
         Parsed::Accepted(o) => o,
-        Parsed::Syntax(token, expected) => {
-            return Reply::Refused(Reason::Syntax(token as u64, expected));
-        }
-        Parsed::NoRoom => return Reply::Refused(Reason::NoRoom),
+        Parsed::Syntax(token, expected) => return Err(Reason::Syntax(token as u64, expected)),
+        Parsed::NoRoom => return Err(Reason::NoRoom),
     };
     trees::lay_out(work, o, rows, slots, tree);
-    Reply::Accepted(Counts {
+    Ok(Counts {
         total: o as u32,
-        kept: 0,
         made: o as u32,
-        given_up: 0,
+        ..Counts::default()
     })
 }
 
@@ -52,37 +50,34 @@ pub fn parse_checked(
     tokens: &[u8],
     tree: &mut [u8],
     work: &mut [u8],
-) -> Reply
+) -> Result<Counts, Reason>
     ensures { Outcome (parse_call image.now tables.now tokens.now
-        (length work.old) (length tree.old)) tree.old result tree.new }
+        (length work.old) (length tree.old)) tree.old (reply_of result) tree.new }
 {
-    let mut rows = [0u8; grammar::ROWS_SIZE];
-    let mut sets = [0u32; sets::SETS_SIZE];
-    let mut cells = [0u8; tables::PREDICTIONS_SIZE];
     // Replies 1, 2, 3
-    let head = match crate::checks::check_grammar(image, &mut rows, &mut sets, &mut cells) {
-        GrammarChecked::Fit(head) => head,
-        GrammarChecked::Unfit(reason) => return Reply::Refused(reason),
-    };
+    let mut found = Analysis::new();
+    let head = found.check(image)?;
     // Reply 4
-    if !tables::is_prepared(&rows, head, &sets, &cells, tables) {
-        return Reply::Refused(Reason::WrongTables);
+    if !tables::is_prepared(&found.rows, head, &found.sets, &found.cells, tables) {
+        return Err(Reason::WrongTables);
     }
     // Reply 5
-    let slots = crate::checks::slots_of(tree.len());
-    if slots == 0 {
-        return Reply::Refused(Reason::WrongTree);
-    }
+    let slots = crate::checks::slots_of(tree.len()).ok_or(Reason::WrongTree)?;
     // Reply 6
     let need = trees::WORK_AREAS * tree.len();
     if work.len() < need {
-        return Reply::Refused(Reason::ShortWork(need as u64));
+        return Err(Reason::ShortWork(need as u64));
     }
     // Reply 7
-    let m = match plain::read_tokens(tokens, head.t) {
-        Tokens::Good(m) => m,
-        Tokens::Bad(bad) => return Reply::Refused(Reason::BadToken(bad as u64)),
-    };
+    match plain::read_tokens(tokens, head.t) {
+        Tokens::Good(_) => (),
+        Tokens::Bad(bad) => return Err(Reason::BadToken(bad as u64)),
+    }
     // Replies 9, 10
-    parse_tokens(tokens, m, tables, &rows, head, slots, tree, work)
+    let language = Language {
+        rows: &found.rows,
+        head,
+        tables,
+    };
+    parse_tokens(language, tokens, slots, tree, work)
 }

@@ -3,6 +3,8 @@
 
 mod call_edit;
 mod call_parse;
+mod call_prepare;
+mod call_read_back;
 mod checks;
 
 ghost use Rattle.std.specs.Prelude.{length};
@@ -12,34 +14,14 @@ ghost use Rattle.calls.specs.Parse.{parse_call};
 ghost use Rattle.calls.specs.Edit.{edit_call};
 ghost use Rattle.calls.specs.ReadBack.{read_back_call};
 
-use checks::GrammarChecked;
-use replies::{Counts, Reason, Reply};
-use walks::Walked;
+use replies::Reply;
 
 // Prepares the tables of a grammar image.
 pub fn prepare(image: &[u8], tables: &mut [u8]) -> Reply
     ensures { Outcome (prepare_call image.now (length tables.old)) tables.old result
         tables.new }
 {
-    let mut rows = [0u8; grammar::ROWS_SIZE];
-    let mut sets = [0u32; sets::SETS_SIZE];
-    let mut cells = [0u8; tables::PREDICTIONS_SIZE];
-    // Replies 1, 2, 3
-    let head = match checks::check_grammar(image, &mut rows, &mut sets, &mut cells) {
-        GrammarChecked::Fit(head) => head,
-        GrammarChecked::Unfit(reason) => return Reply::Refused(reason),
-    };
-    // Reply 4
-    if tables.len() != tables::TABLES_SIZE {
-        return Reply::Refused(Reason::WrongTables);
-    }
-    tables::write_tables(&rows, head, &sets, &cells, tables);
-    Reply::Accepted(Counts {
-        total: 0,
-        kept: 0,
-        made: 0,
-        given_up: 0,
-    })
+    call_prepare::prepare_checked(image, tables).into()
 }
 
 // Parses tokens into a tree.
@@ -48,9 +30,9 @@ pub fn parse(image: &[u8], tables: &[u8], tokens: &[u8], tree: &mut [u8], work: 
         (length work.old) (length tree.old)) tree.old work.old result
         tree.new work.new }
 {
-    let r = call_parse::parse_checked(image, tables, tokens, tree, work);
-    base::zero(work);
-    r
+    let call = call_parse::parse_checked(image, tables, tokens, tree, work);
+    work.fill(0);
+    call.into()
 }
 
 // Replaces a run of a tree's tokens, from a place on, by others.
@@ -67,45 +49,15 @@ pub fn edit(
         (length work.old) tree.old) tree.old work.old result tree.new
         work.new }
 {
-    let r = call_edit::edit_checked(image, tables, tree, place, removed, tokens, work);
-    base::zero(work);
-    r
+    let call = call_edit::edit_checked(image, tables, tree, place, removed, tokens, work);
+    work.fill(0);
+    call.into()
 }
 
-// Reads a tree's tokens back. They are put together in a local, after the room for the tree's nodes.
+// Reads a tree's tokens back.
 pub fn read_back(image: &[u8], tree: &[u8], output: &mut [u8]) -> Reply
     ensures { Outcome (read_back_call image.now tree.now output.old)
         output.old result output.new }
 {
-    let mut rows = [0u8; grammar::ROWS_SIZE];
-    let mut sets = [0u32; sets::SETS_SIZE];
-    let mut cells = [0u8; tables::PREDICTIONS_SIZE];
-    // Replies 1, 2, 3
-    let head = match checks::check_grammar(image, &mut rows, &mut sets, &mut cells) {
-        GrammarChecked::Fit(head) => head,
-        GrammarChecked::Unfit(reason) => return Reply::Refused(reason),
-    };
-    // Reply 5
-    let slots = checks::slots_of(tree.len());
-    if slots == 0 {
-        return Reply::Refused(Reason::WrongTree);
-    }
-    let mut work = [0u8; walks::WALK_SIZE];
-    let o = match walks::read_tree(tree, slots, &rows, head, &mut work) {
-        Walked::Tree(o) => o,
-        Walked::NoTree => return Reply::Refused(Reason::WrongTree),
-    };
-    // Reply 11
-    let tokens = base::get16(tree, trees::TOKENS_PLACE);
-    let need = plain::TOKEN_SIZE * tokens;
-    if output.len() < need {
-        return Reply::Refused(Reason::ShortOutput(need as u64));
-    }
-    sentences::give_out(&mut work, o, trees::NODE_SIZE * slots, tokens, output);
-    Reply::Accepted(Counts {
-        total: o as u32,
-        kept: 0,
-        made: 0,
-        given_up: 0,
-    })
+    call_read_back::read_back_checked(image, tree, output).into()
 }

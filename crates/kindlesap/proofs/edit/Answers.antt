@@ -1,6 +1,11 @@
+use Rattle.base.specs.Blocks.{zeros, zeros_sized}
 use borrow.Author.Rules.{rules}
-use Rattle.base.specs.Blocks.{zeros_sized}
 use Rattle.kindlesap.proofs.edit.Goals as goal
 
 pub returns : goal.returns
-returns c = record { outcome = search rules; cleared = zeros_sized _ _ _ c.zero.ensures (search rules) }
+unfolding zeros
+returns c =
+    record {
+      outcome = rw c.into.ensures c.edit_checked-call.ensures;
+      cleared = zeros_sized _ _ _ (c.fill.ensures.after (λ y e. e)) (search rules);
+    }

@@ -1,59 +1,59 @@
-use Rattle.std.proofs.Common.{refl}
-use Rattle.base.specs.Blocks.{zeros}
+use Rattle.std.proofs.lemmas.Result.{err_from_is_err_and}
 use Rattle.grammar.specs.Rows.{grammar_in}
 use Rattle.kindlesap.specs.GrammarChecks.{checked_ready, checked_fit}
-use Rattle.kindlesap.specs.AreaChecks.{area_wrong}
+use Rattle.kindlesap.specs.AreaChecks.{area_sized, area_wrong}
 use Rattle.kindlesap.specs.ParseChecks.{parse_3, parse_4, parse_5, parse_6, parse_7, parse_rest, grounded}
 use borrow.Author.Rules.{rules}
 use Rattle.kindlesap.proofs.call_parse.parse_checked.Goals as goal
 
-pub check_grammar-requires : goal.check_grammar-requires
-unfolding zeros
-check_grammar-requires c = (search rules, refl)
-
-pub returns-in-Unfit : goal.returns-in-Unfit
-returns-in-Unfit c =
-    parse_3 _ _ _ _ _ _ c.check_grammar.ensures.0 c.in-Unfit.is
+pub returns-in_err-head : goal.returns-in_err-head
+returns-in_err-head c =
+    let p = err_from_is_err_and c.from_residual.result c.from_residual.ensures.1 in
+    rw (p.1, p.2) (parse_3 _ _ _ _ _ _ c.check.ensures c.in_err-head.was)
 
 pub is_prepared-requires : goal.is_prepared-requires
-is_prepared-requires c =
-    checked_ready _ c.check_grammar.ensures.0 c.in-Fit.is
+is_prepared-requires c = checked_ready _ c.check.ensures c.in_ok-head.was
 
 pub returns-then-not-is_prepared : goal.returns-then-not-is_prepared
 returns-then-not-is_prepared c =
-    let f = checked_fit _ c.check_grammar.ensures.0 c.in-Fit.is in
+    let f = checked_fit _ c.check.ensures c.in_ok-head.was in
     parse_4 f _ _ _ _ _ (c.is_prepared.ensures.no c.if-not-is_prepared.true)
 
-pub returns-then-slots-eq0 : goal.returns-then-slots-eq0
-returns-then-slots-eq0 c =
-    let f = checked_fit _ c.check_grammar.ensures.0 c.in-Fit.is in
-    parse_5 f _ _ _ _ _ (c.is_prepared.ensures.yes c.if-not-is_prepared.false) (area_wrong c.slots_of-slots.ensures (search rules))
+pub returns-in_err-slots : goal.returns-in_err-slots
+returns-in_err-slots c =
+    let f = checked_fit _ c.check.ensures c.in_ok-head.was in
+    let p = err_from_is_err_and c.from_residual-in_err-slots.result c.from_residual-in_err-slots.ensures.1 in
+    rw (p.1, p.2) (parse_5 f _ _ _ _ _ (c.is_prepared.ensures.yes c.if-not-is_prepared.false) _ (area_wrong _ c.slots_of.ensures c.ok_or.ensures.value _ c.in_err-slots.was))
 
 pub overflow_mul-need : goal.overflow_mul-need
 overflow_mul-need c =
-    let z = c.slots_of-slots.ensures.right c.if-slots-eq0.false in
+    let z = area_sized _ c.slots_of.ensures c.ok_or.ensures.value _ c.in_ok-slots.was in
     let u = z.few in
     let v = z.long in
     search rules
 
 pub returns-then-work-need : goal.returns-then-work-need
 returns-then-work-need c =
-    let f = checked_fit _ c.check_grammar.ensures.0 c.in-Fit.is in
-    parse_6 f _ _ _ _ _ (c.is_prepared.ensures.yes c.if-not-is_prepared.false) _ (c.slots_of-slots.ensures.right c.if-slots-eq0.false) _ (search rules) (search rules)
+    let f = checked_fit _ c.check.ensures c.in_ok-head.was in
+    let z = area_sized _ c.slots_of.ensures c.ok_or.ensures.value _ c.in_ok-slots.was in
+    parse_6 f _ _ _ _ _ (c.is_prepared.ensures.yes c.if-not-is_prepared.false) _ z _ (search rules) (search rules)
 
 pub returns-in-Bad : goal.returns-in-Bad
 unfolding grammar_in
 returns-in-Bad c =
-    let f = checked_fit _ c.check_grammar.ensures.0 c.in-Fit.is in
-    parse_7 f _ _ _ _ _ (c.is_prepared.ensures.yes c.if-not-is_prepared.false) _ (c.slots_of-slots.ensures.right c.if-slots-eq0.false) (search rules) _ c.read_tokens.ensures c.in-Bad.is
+    let f = checked_fit _ c.check.ensures c.in_ok-head.was in
+    let z = area_sized _ c.slots_of.ensures c.ok_or.ensures.value _ c.in_ok-slots.was in
+    parse_7 f _ _ _ _ _ (c.is_prepared.ensures.yes c.if-not-is_prepared.false) _ z (search rules) _ c.read_tokens.ensures c.in-Bad.is
 
 pub parse_tokens-requires : goal.parse_tokens-requires
 parse_tokens-requires c =
-    let f = checked_fit _ c.check_grammar.ensures.0 c.in-Fit.is in
-    (grounded _ _ _ _ _ f.prepared (c.is_prepared.ensures.yes c.if-not-is_prepared.false) c.read_tokens.ensures c.in-Good.is, c.slots_of-slots.ensures.right c.if-slots-eq0.false, search rules)
+    let f = checked_fit _ c.check.ensures c.in_ok-head.was in
+    let z = area_sized _ c.slots_of.ensures c.ok_or.ensures.value _ c.in_ok-slots.was in
+    (grounded _ _ _ _ _ f.prepared (c.is_prepared.ensures.yes c.if-not-is_prepared.false) c.read_tokens.ensures c.in-Good.is, z, search rules)
 
 pub returns : goal.returns
 unfolding grammar_in
 returns c =
-    let f = checked_fit _ c.check_grammar.ensures.0 c.in-Fit.is in
-    parse_rest f _ _ _ _ _ (c.is_prepared.ensures.yes c.if-not-is_prepared.false) _ (c.slots_of-slots.ensures.right c.if-slots-eq0.false) (search rules) _ c.read_tokens.ensures c.in-Good.is _ _ c.parse_tokens.ensures
+    let f = checked_fit _ c.check.ensures c.in_ok-head.was in
+    let z = area_sized _ c.slots_of.ensures c.ok_or.ensures.value _ c.in_ok-slots.was in
+    parse_rest f _ _ _ _ _ (c.is_prepared.ensures.yes c.if-not-is_prepared.false) _ z (search rules) _ c.read_tokens.ensures c.in-Good.is _ _ c.parse_tokens.ensures

@@ -1,3 +1,5 @@
+use Rattle.std.proofs.Common.{◌≡◌}
+use Rattle.replies.specs.Reply.{no_counts}
 use Rattle.plain.specs.Outcome.{is_done}
 use Rattle.kindlesap.specs.ParseChecks.{room_for, fits_slots, done_fed, done_spread, store_done, store_9, store_10}
 use borrow.Author.Rules.{rules}
@@ -42,4 +44,4 @@ overflow_cast-result-2 c =
 
 pub returns : goal.returns
 returns c =
-    store_done _ _ _ _ _ _ _ c.requires.1.some (is_done _ c.parse_lent.ensures c.in-Accepted.is) _ _ c.lay_out.ensures
+    let d : c.default.result ≡ no_counts = search rules in rw d (store_done _ _ _ _ _ _ _ c.requires.1.some (is_done _ c.parse_lent.ensures c.in-Accepted.is) _ _ c.lay_out.ensures)
