@@ -1,5 +1,5 @@
 -- A tree area that was walked, and the list of its nodes.
-use Rattle.std.specs.Prelude.{ℕ, ◌-◌, ◌*◌, ◌≤◌, ◌≡◌, length, List}
+use Rattle.std.specs.Prelude.{ℕ, ◌-◌, ◌*◌, ◌≤◌, ◌≡◌, length, List, Option, Some, None}
 use Rattle.std.proofs.Common.{sym, ap, ◌∙◌, arith}
 use Rattle.base.specs.Choose.{never}
 use Rattle.grammar.specs.declared.Head.{Head}
@@ -14,7 +14,6 @@ use Rattle.notes.specs.Views.{notes_size}
 use Rattle.plain.specs.Machine.{length_symbols}
 use Rattle.walks.specs.Reading.{valid_few}
 use Rattle.walks.specs.Closing.{Reads}
-use Rattle.walks.specs.declared.Walked.{Walked}
 
 -- the rows say how many children a production has
 pub arity_rows : (rows : List ℕ) (head : Head) → Arity (grammar_in rows head) (arity_in rows)
@@ -33,11 +32,11 @@ pub record Treed (G : Grammar) (S : ℕ) (b w : List ℕ) (n : ℕ) : Type 0 whe
   pub nodes : preorder valid.tree ≡ nodes_from w n 0
   pub count : n ≡ size valid.tree
 
-pub treed : {G : Grammar} {S : ℕ} {b w : List ℕ} {r : Walked} (n : ℕ) → Reads G S b w r → r ≡ Walked.Tree n → Treed G S b w n
+pub treed : {G : Grammar} {S : ℕ} {b w : List ℕ} {r : Option ℕ} (n : ℕ) → Reads G S b w r → r ≡ Some n → Treed G S b w n
 treed n (Reads.tree {n = m} v e f) q = let z : m ≡ n = cc in record { valid = v; nodes = rw z at e; count = rw z at f }
 treed n (Reads.none f) q = never (cc)
 
-pub untreed : {G : Grammar} {S : ℕ} {b w : List ℕ} {r : Walked} → Reads G S b w r → r ≡ Walked.NoTree → Valid G S b → ⊥
+pub untreed : {G : Grammar} {S : ℕ} {b w : List ℕ} {r : Option ℕ} → Reads G S b w r → r ≡ None → Valid G S b → ⊥
 untreed (Reads.tree v e f) q = never (cc)
 untreed (Reads.none f) q = f
 

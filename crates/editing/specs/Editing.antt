@@ -1,5 +1,5 @@
 -- What the checks of edit say, and what an alteration says of the rest of the call.
-use Rattle.std.specs.Prelude.{ℕ, ◌-◌, ◌*◌, ◌≤◌, ◌<◌, true, false, ◌≡◌, refl, Result, Ok, Err, List, length}
+use Rattle.std.specs.Prelude.{ℕ, ◌-◌, ◌*◌, ◌≤◌, ◌<◌, true, false, ◌≡◌, refl, Result, Ok, Err, List, length, Option, Some, None}
 use Rattle.std.proofs.Common.{ap, ◌∙◌, arith}
 use Rattle.std.specs.Result.{MatchResult, IsErrAnd}
 use Rattle.base.specs.Bytes.{get16}
@@ -10,7 +10,6 @@ use Rattle.grammar.specs.Forest.{Forest, size, yield}
 use Rattle.trees.specs.Area.{max_slots, work_areas, tokens_place, Valid}
 use Rattle.walks.specs.Reading.{valid_one, valid_header}
 use Rattle.walks.specs.Closing.{Reads}
-use Rattle.walks.specs.declared.Walked.{Walked}
 use Rattle.edits.specs.Keeping.{Edit}
 use Rattle.altering.specs.Outcome.{Alters, AltersTree, Few}
 use Rattle.altering.specs.Treed.{Treed, treed, untreed}
@@ -30,11 +29,11 @@ use Rattle.calls.proofs.CallsUnique.{altered_parses}
 -- ---- replies 5 and 6: the old tree
 
 -- the walk tells whether an area is a valid tree
-pub tells_tree : {G : Grammar} {S : ℕ} {b w : List ℕ} {r : Walked} (n : ℕ) → Reads G S b w r → r ≡ Walked.Tree n
+pub tells_tree : {G : Grammar} {S : ℕ} {b w : List ℕ} {r : Option ℕ} (n : ℕ) → Reads G S b w r → r ≡ Some n
     → Tells (Valid G S b) true
 tells_tree n h e = tells_yes (treed n h e).valid
 
-pub tells_none : {G : Grammar} {S : ℕ} {b w : List ℕ} {r : Walked} → Reads G S b w r → r ≡ Walked.NoTree
+pub tells_none : {G : Grammar} {S : ℕ} {b w : List ℕ} {r : Option ℕ} → Reads G S b w r → r ≡ None
     → Tells (Valid G S b) false
 tells_none h e = tells_no (untreed h e)
 
@@ -47,11 +46,11 @@ pub data Finds (G : Grammar) (S : ℕ) (tree : List ℕ) (room : ℕ) (work : Li
   finds_short : Valid G S tree → room < work_areas * length tree → Finds G S tree room work (Err (reasons.ShortWork (work_areas * length tree)))
 
 module _ {G : Grammar} {S : ℕ} {tree : List ℕ} {room : ℕ} {work : List ℕ} where
-  pub walk_tree : {r : Walked} (o : ℕ) → Reads G S tree work r → r ≡ Walked.Tree o → work_areas * length tree ≤ room
+  pub walk_tree : {r : Option ℕ} (o : ℕ) → Reads G S tree work r → r ≡ Some o → work_areas * length tree ≤ room
       → room ≡ length work → Finds G S tree room work (Ok o)
   walk_tree o h e l m = finds_tree (treed o h e) l m
 
-  pub walk_none : {r : Walked} → Reads G S tree work r → r ≡ Walked.NoTree
+  pub walk_none : {r : Option ℕ} → Reads G S tree work r → r ≡ None
       → Finds G S tree room work (Err reasons.WrongTree)
   walk_none h e = finds_none (untreed h e)
 
