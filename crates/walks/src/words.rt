@@ -25,7 +25,7 @@ fn word_of(rows: &[u8], q: usize) -> usize
     BASE * v + DIGIT + grammar::left_at(rows, q)
 }
 
-// The words of the productions, each at its number; the others stay 0. They are written in place: an array that is returned is copied, which read back shows.
+// The words of the productions, each at its number; the others stay 0. They are written in place: an array of 2,048 bytes that is returned is copied.
 pub fn fill_words(rows: &[u8], count: usize, words: &mut [usize; WORDS])
     requires { words.old ≡ zeros word_count }
     ensures { Worded rows.now count words.new }

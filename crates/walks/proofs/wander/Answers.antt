@@ -1,6 +1,6 @@
 use Rattle.std.proofs.Common.{rules, refl, ap, ◌∙◌, Some, arith}
 use Rattle.walks.specs.Judging.{Taken, taken_leaf, taken_body}
-use Rattle.walks.specs.Walking.{walking_start, walking_leaves, walking_fits, walking_room, walking_next, walking_up, walking_end, walking_down, walking_push, wandered_unfit, wandered_behind}
+use Rattle.walks.specs.Walking.{walking_start, walking_leaves, walking_room, walking_next, walking_up, walking_end, walking_down, walking_push, wandered_unfit, wandered_behind}
 use Rattle.walks.proofs.wander.Goals as goal
 use Rattle.walks.proofs.wander.Goals.{Joined-branch-2, in-Leaf, in-Body, then-rest-ne0, else-rest-ne0+else-next-ne0}
 

@@ -1,5 +1,4 @@
-use Rattle.std.proofs.Common.{◌≡◌, ◌-◌, ◌≤◌, ◌%◌, ◌/◌, length}
-use Rattle.walks.specs.Stacked.{walk_size}
+use Rattle.std.proofs.Common.{◌≡◌, ◌-◌, ◌%◌, ◌/◌, length}
 use Rattle.walks.specs.Walking.{Walking}
 use Rattle.walks.proofs.wander.Given as goal
 

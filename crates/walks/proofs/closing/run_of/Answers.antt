@@ -1,4 +1,4 @@
-use Rattle.walks.specs.Closing.{run_visited, run_four, run_zero, run_one}
+use Rattle.walks.specs.Closing.{run_zero, run_one}
 use borrow.Author.Rules.{rules}
 use Rattle.walks.proofs.closing.run_of.Goals as goal
 
