@@ -41,7 +41,7 @@ fn hold_all(notes: &mut Notes, k: usize) -> usize
     kept
 }
 
-// The first slot from s on that is not marked.
+// The first slot from s on that is not marked; a number beyond the slots where all are, since `Gives` has every node get some slot.
 fn lowest_free(notes: &Notes, s: usize) -> usize
     ensures { Lowest (marks_of notes.now) notes.now.slots s result × (result ≤ max s (notes.now.slots + 1)) }
 {

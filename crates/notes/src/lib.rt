@@ -77,7 +77,7 @@ impl<'a> Notes<'a> {
         self.note_at(self.slots + self.slots + 1)
     }
 
-    // Fields of node x of both lists, the new tree's from node `slots` on.
+    // Fields of node x of both lists, the new tree's from node `slots` on; a method each, since `trees` has a function for each of them.
     pub fn symbol_of(&self, x: usize) -> usize
         requires { x < self.now.slots + self.now.slots }
         ensures { (result ≡ (node_at (nodes_of self.now) x).symbol) × (result < 256) }
