@@ -1,5 +1,5 @@
 -- The laws that the proof of edit cites: what each check on the way says of the call.
-use Rattle.std.specs.Prelude.{ℕ, ◌+◌, ◌*◌, ◌≤◌, ◌<◌, ◌≡◌, refl, Result, Ok, Err, List, length}
+use Rattle.std.specs.Prelude.{ℕ, ◌+◌, ◌*◌, ◌≤◌, ◌≡◌, Result, Err, List, length}
 use Rattle.std.proofs.Common.{arith}
 use Rattle.base.specs.Bytes.{get16}
 use Rattle.base.specs.Choose.{never}

@@ -4,8 +4,7 @@ use Rattle.std.proofs.Common.{ap, arith}
 use Rattle.base.specs.Choose.{never}
 use Rattle.grammar.specs.Limits.{max_terminals, max_nonterminals, max_productions}
 use Rattle.grammar.specs.Grammar.{Grammar, WellFormed}
-use Rattle.grammar.specs.Derivation.{Useless, Lowest}
-use Rattle.grammar.specs.Prediction.{Conflict}
+use Rattle.grammar.specs.Derivation.{Useless}
 use Rattle.grammar.specs.Image.{Image}
 use Rattle.grammar.specs.Rows.{symbol_space, productions_from, grammar_in, head_of, rows_of, rows_grammar, start_small}
 use Rattle.grammar.specs.Outcome.{Reads, reads_good, reads_bad}
