@@ -20,7 +20,8 @@ use Rattle.plain.specs.Tokens.{token_size, Sentence, length_token_bytes, tokens_
 use Rattle.plain.specs.Text.{text_in}
 use Rattle.notes.specs.Views.{nodes_in, with_part, nodes_in_lem}
 use Rattle.plain.specs.Machine.{Ground, Done}
-use Rattle.plain.specs.Outcome.{Ran}
+use Rattle.plain.specs.Plain.{Parses}
+use Rattle.plain.specs.Outcome.{verdict_of}
 use Rattle.plain.specs.declared.ParseError.{ParseError}
 use Rattle.edits.specs.Keeping.{Edit, edit_of}
 use Rattle.matching.specs.Finding.{Numbers}
@@ -51,9 +52,8 @@ module _ (w b : List ℕ) (a : ℕ) (l : a ≤ length w) where
 pub text_is : (w : List ℕ) (S r : ℕ) {p : List ℕ} → p ≡ take (length w - node_size * S) (drop (node_size * S) w) → text_in S r p ≡ part_of (drop (node_size * (S + S)) w) r
 unfolding text_in
 text_is w S r {p} e =
-    let a : node_size * S + token_size * r - node_size * S ≡ token_size * r = omega arith in
     let b : node_size * S + node_size * S ≡ node_size * (S + S) = omega arith in
-    rw (e, part_tail w (node_size * S), drop-drop (node_size * S) (node_size * S) w, a, b)
+    rw (e, part_tail w (node_size * S), drop-drop (node_size * S) (node_size * S) w, b)
 
 -- as many bytes are lent as the tokens have
 pub sentence_long : {t : ℕ} {b : List ℕ} (m : ℕ) → Sentence t b (tokens_from b m 0) → length b ≡ token_size * m
@@ -81,7 +81,7 @@ module _ (rows : List ℕ) (head : Head) {S : ℕ} {tree w : List ℕ} {o : ℕ}
       course_ground x = rw (text_is w₁ S r lp) (ground_of rows head p h.valid old_leaves s a x)
 
       module _ (l : limit ≡ suc S) where
-        pub course_refused : {b : List ℕ} (x : ParseError) → Ran G S (text_in S r lent_part) r b (Err x) → AltersTree G S e tree (Err x) tree
+        pub course_refused : (x : ParseError) → Parses G S (tokens_from (text_in S r lent_part) r 0) (verdict_of x) → AltersTree G S e tree (Err x) tree
         course_refused x u =
             record {
               all = λ v.

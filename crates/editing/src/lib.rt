@@ -18,7 +18,6 @@ ghost use Rattle.editing.specs.Editing.{Finds, Renews, edit_counts, reason_of};
 use altering::{Altered, Change, Language, ParseError};
 use grammar::Head;
 use replies::{Counts, Reason};
-use walks::Walked;
 
 // Whether an area of that many slots is a valid tree, found in a local array, where the lent work area is too short.
 fn is_tree(tree: &[u8], slots: usize, rows: &[u8], head: Head) -> bool
@@ -26,10 +25,7 @@ fn is_tree(tree: &[u8], slots: usize, rows: &[u8], head: Head) -> bool
     ensures { Tells (Valid (grammar_in rows.now head) slots tree.now) result }
 {
     let mut work = [0u8; walks::WALK_SIZE];
-    match walks::read_tree(tree, slots, rows, head, &mut work) {
-        Walked::Tree(_) => true,
-        Walked::NoTree => false,
-    }
+    walks::read_tree(tree, slots, rows, head, &mut work).is_some()
 }
 
 // Replies 5 and 6 of an area of that many slots; or the old tree's number of nodes, which are listed in the work area.
@@ -51,10 +47,7 @@ pub fn old_tree(
         }
         return Err(Reason::WrongTree);
     }
-    match walks::read_tree(tree, slots, rows, head, work) {
-        Walked::Tree(o) => Ok(o),
-        Walked::NoTree => Err(Reason::WrongTree),
-    }
+    walks::read_tree(tree, slots, rows, head, work).ok_or(Reason::WrongTree)
 }
 
 // Reply 8: whether the run is inside a sentence of `tokens` tokens.

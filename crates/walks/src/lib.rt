@@ -24,6 +24,7 @@ ghost use Rattle.walks.specs.Closing.{Reads};
 
 use area::Area;
 use grammar::Head;
+use trees::Node;
 use words::WORDS;
 
 // A frame's slot and parent, two bytes each, and its symbols, eight.
@@ -115,15 +116,21 @@ fn visit(area: Area, rules: &Rules, due: Siblings, w: &mut [u8], i: usize) -> Op
     let both = base::two(area.bytes, at + trees::SYMBOL_PLACE);
     let p = both / 256;
     let g = base::four(area.bytes, at + trees::TAG_PLACE);
+    let node = Node {
+        slot: s as u16,
+        symbol: (both % 256) as u8,
+        production: p as u8,
+        tag: g as u32,
+    };
     // Each arm writes the node: written once for both, the arms part again behind it, and read back takes a sixth longer.
     match rules.kin(x, p, g)? {
         Kids::Leaf => {
-            trees::put_node(w, i, s, both % 256, p, g);
+            trees::put_node(w, i, node);
             w[mark] = 1;
             area.hangs(s, due.parent, 0).then_some(Kids::Leaf)
         }
         Kids::Body(body) => {
-            trees::put_node(w, i, s, both % 256, p, g);
+            trees::put_node(w, i, node);
             w[mark] = 1;
             area.hangs(s, due.parent, body).then_some(Kids::Body(body))
         }
