@@ -18,4 +18,8 @@ pub returns : goal.returns
 returns c = let p = c.requires in let e = c.new_sentence-r.ensures in let f = treed_sized _ _ _ _ _ _ p.2 in let s = c.settle-kept.ensures in (course_settled _ _ _ _ _ p.0 p.2 p.3 e.1 (e.0 _ (sentence_long _ p.3)) refl (search rules) p.4 _ c.in_ok-total.ensures (treed_long _ _ _ _ _ _ p.2 p.5) s.0, few_altered s.1 s.2 (course_fits _ _ _ _ _ p.0 p.2 p.3 e.1 (e.0 _ (sentence_long _ p.3)) refl (search rules) p.4 _ c.in_ok-total.ensures (treed_long _ _ _ _ _ _ p.2 p.5)) f.1)
 
 pub returns-in_err-total : goal.returns-in_err-total
-returns-in_err-total c = let p = c.requires in let e = c.new_sentence-r.ensures in (course_refused _ _ _ _ _ p.0 p.2 p.3 e.1 (e.0 _ (sentence_long _ p.3)) refl (search rules) _ c.in_err-total.ensures, few_refused _)
+returns-in_err-total c =
+    let p = c.requires in
+    let e = c.new_sentence-r.ensures in
+    let q = err_from_is_err_and c.from_residual.result c.from_residual.ensures.1 in
+    rw q.1 (course_refused _ _ _ _ _ p.0 p.2 p.3 e.1 (e.0 _ (sentence_long _ p.3)) refl (search rules) _ c.in_err-total.ensures, few_refused _)
