@@ -1,9 +1,9 @@
 -- A text written row by row: how much room it takes, and what a turn of the loop adds to a row.
-use Rattle.std.specs.Prelude.{ℕ, zero, suc, ◌+◌, ◌-◌, ◌*◌, ◌/◌, ◌%◌, ◌^◌, ◌≤◌, ◌<◌, ◌≡◌, refl, ◌⊎◌, List, [], ◌∷◌, ◌++◌, length, get_or, drop, ltb, decimal}
-use Rattle.std.proofs.Common.{sym, ap, ◌∙◌, inl, inr, append_assoc, append-nil, length-append, length-drop, lt-ltb, le-ltb, arith}
-use Rattle.std.proofs.lemmas.Fmt.{AppendsLastDigit, decimal_from_appends, length-decimal-le}
+use Rattle.std.specs.Prelude.{ℕ, ◌+◌, ◌-◌, ◌*◌, ◌^◌, ◌<◌, ◌≡◌, refl, ◌⊎◌, List, [], ◌∷◌, ◌++◌, length, get_or, drop, ltb, decimal}
+use Rattle.std.proofs.Common.{sym, ap, ◌∙◌, inl, inr, append_assoc, append-nil, length-drop, lt-ltb, le-ltb, arith}
+use Rattle.std.proofs.lemmas.Fmt.{decimal_from_appends, length-decimal-le}
 use Rattle.std.proofs.lemmas.List.{drop_more}
-use Rattle.base.specs.Choose.{choose_of, choose_yes, choose_no}
+use Rattle.base.specs.Choose.{choose_yes, choose_no}
 use Rattle.trees.specs.Area.{max_slots}
 use Rattle.listing.specs.Text.{digits_of, most_digits, field, row, space, newline}
 
@@ -32,10 +32,6 @@ digits_text n l = decimal_from_appends digits_of (record {
 abbrev pub rest_row : List ℕ → List ℕ
 rest_row [] = []
 rest_row (n ∷ ns) = row (n ∷ ns)
-
-pub whole_row : (ns : List ℕ) → 0 < length ns → rest_row ns ≡ row ns
-whole_row [] l = absurd (omega arith)
-whole_row (n ∷ ns) l = refl
 
 -- the mark behind a field, where n fields follow it
 abbrev pub Mark : ℕ → ℕ → Type 0
