@@ -1,5 +1,5 @@
 -- What the program prints of a reply and its tree area is what it should print; and it can print nothing else.
-use Rattle.std.specs.Prelude.{ℕ, ◌*◌, ◌≤◌, ◌<◌, ◌≡◌, refl, List, length, take}
+use Rattle.std.specs.Prelude.{ℕ, ◌*◌, ◌≤◌, ◌<◌, ◌≡◌, refl, List, length}
 use Rattle.std.proofs.Common.{sym, ap, ◌∙◌, subst, arith}
 use Rattle.base.specs.Choose.{never}
 use Rattle.base.specs.Blocks.{zeros, length_zeros}
@@ -19,7 +19,6 @@ use Rattle.calls.proofs.OrderLaws.{one_outcome, ends_one}
 use Rattle.calls.proofs.CallsUnique.{prepare_settled, parse_settled}
 use Rattle.calls.proofs.Demand2.{parse_stores}
 use Rattle.listing.specs.Text.{max_input, refused_text, accepted_text, ParseEnds, Parsed, Prints, too_long, refused, accepted}
-use Rattle.listing.specs.Writing.{Written, written_whole}
 use Rattle.listing.specs.Rows.{area_text, accepted_text_lem}
 
 -- the text of a reply, and of the area that parse has left
@@ -49,11 +48,11 @@ left_prints : {tokens b : List ℕ} {r : Reply} → length tokens ≤ max_input 
 left_prints l h (nothing x) = refused l h
 left_prints {b = b} l h (tree f m a o) = rw (accepted_text_lem max_slots f b (omega arith) a m o) (accepted f l h a o)
 
-pub parsed_prints : {tokens b w w' : List ℕ} {r : Reply} {e : ℕ} → length tokens ≤ max_input → Parsed tokens r b → Written (reply_text r b) 0 w e w' → Prints tokens (take e w')
-parsed_prints l h k = rw (written_whole k) (left_prints l h (parsed_left h))
+pub parsed_prints : {tokens b w : List ℕ} {r : Reply} → length tokens ≤ max_input → Parsed tokens r b → w ≡ reply_text r b → Prints tokens w
+parsed_prints l h e = rw e (left_prints l h (parsed_left h))
 
-pub long_prints : {tokens w w' : List ℕ} {e : ℕ} → max_input < length tokens → Written (refused_text 7 1000 0) 0 w e w' → Prints tokens (take e w')
-long_prints l k = rw (written_whole k) (too_long l)
+pub long_prints : {tokens w : List ℕ} → max_input < length tokens → w ≡ refused_text 7 1000 0 → Prints tokens w
+long_prints l e = rw e (too_long l)
 
 -- ---- no second text
 
@@ -89,11 +88,11 @@ prints_one (accepted {tree = b} f l h a o) (accepted {tree = b'} f' m k a' o') =
 pub reply_few : (r : Reply) (c : Counts) → r ≡ Accepted c → (counts_of r).total ≤ max_slots → c.total ≤ max_slots
 reply_few r c q l = rw q at l
 
-pub reply_accepted : (r : Reply) (c : Counts) (b : List ℕ) {w w' : List ℕ} {e : ℕ} → r ≡ Accepted c → Written (area_text b c.total) 0 w e w' → Written (reply_text r b) 0 w e w'
-reply_accepted r c b q h = rw q h
+pub reply_accepted : (r : Reply) (c : Counts) (b w : List ℕ) → r ≡ Accepted c → w ≡ area_text b c.total → w ≡ reply_text r b
+reply_accepted r c b w q h = rw q h
 
-pub reply_refused : (r : Reply) (x : Reason) (n p m : ℕ) (b : List ℕ) {w w' : List ℕ} {e : ℕ} → r ≡ Refused x → n ≡ number_of r → p ≡ place_of r → m ≡ expected_of r → Written (refused_text n p m) 0 w e w' → Written (reply_text r b) 0 w e w'
-reply_refused r x n p m b q en ep em h =
+pub reply_refused : (r : Reply) (x : Reason) (n p m : ℕ) (b w : List ℕ) → r ≡ Refused x → n ≡ number_of r → p ≡ place_of r → m ≡ expected_of r → w ≡ refused_text n p m → w ≡ reply_text r b
+reply_refused r x n p m b w q en ep em h =
     let en' : n ≡ number_of (Refused x) = rw q at en in
     let ep' : p ≡ place_of (Refused x) = rw q at ep in
     let em' : m ≡ expected_of (Refused x) = rw q at em in

@@ -1,5 +1,5 @@
 -- The rows of slots 1, 2, .. as the bytes of an area have them are the rows of its tree's nodes in preorder.
-use Rattle.std.specs.Prelude.{ℕ, zero, suc, ◌+◌, ◌*◌, ◌≤◌, ◌<◌, ◌≡◌, refl, List, [], ◌∷◌, ◌++◌, length}
+use Rattle.std.specs.Prelude.{ℕ, zero, suc, ◌+◌, ◌-◌, ◌*◌, ◌≤◌, ◌<◌, ◌≡◌, refl, List, [], ◌∷◌, ◌++◌, length}
 use Rattle.std.proofs.Common.{sym, ap, ◌∙◌, append_assoc, append-nil, arith}
 use Rattle.base.specs.Bytes.{byte_at, get16, le_bytes}
 use Rattle.base.specs.Blocks.{zeros}
@@ -10,8 +10,7 @@ use Rattle.trees.specs.Spread.{length_slots}
 use Rattle.walks.specs.Slots.{symbol_in, production_in, parent_in, tag_in, Fields, fields}
 use Rattle.matching.specs.Measure.{few_tokens}
 use Rattle.calls.specs.Parse.{up_from}
-use Rattle.listing.specs.Text.{row, first_row, node_rows, accepted_text}
-use Rattle.listing.specs.Writing.{Written, written_none, written_join}
+use Rattle.listing.specs.Text.{row, accepted_word, first_row, node_rows, accepted_text}
 
 -- slot s
 abbrev pub slot_row : List ℕ → ℕ → List ℕ
@@ -40,20 +39,24 @@ rows_next b i = let q : 1 + i ≡ i + 1 = omega arith in rows_more b 1 i 1 ∙ r
 
 -- ---- slot for slot
 
-pub rows_none : (b : List ℕ) (at : ℕ) (w : List ℕ) → Written (slot_rows b 1 0) at w at w
-unfolding slot_rows
-rows_none b at w = written_none at w
+-- the text before the row of slot s
+abbrev pub rows_before : List ℕ → ℕ → ℕ → List ℕ
+rows_before b n s = first_row n (get16 b tokens_place) ++ slot_rows b 1 (s - 1)
 
-pub rows_turn : (b : List ℕ) (i : ℕ) {at m e : ℕ} {w w' w'' : List ℕ} → Written (slot_rows b 1 i) at w m w' → Written (slot_row b (i + 1)) m w' e w'' → Written (slot_rows b 1 (i + 1)) at w e w''
-rows_turn b i h k = rw (rows_next b i) (written_join h k)
+pub before_first : (b w : List ℕ) (n t : ℕ) → t ≡ get16 b tokens_place → w ≡ accepted_word ++ row (n ∷ t ∷ []) → w ≡ rows_before b n 1
+unfolding first_row slot_rows
+before_first b w n t q e = rw (e, q, append-nil) refl
 
-pub rows_all : (b : List ℕ) (i n : ℕ) {at e : ℕ} {w w' : List ℕ} → n ≤ i → i ≤ n → Written (slot_rows b 1 i) at w e w' → Written (slot_rows b 1 n) at w e w'
-rows_all b i n l m h = let q : i ≡ n = omega arith in rw q at h
+pub before_next : (b w w' : List ℕ) (n s : ℕ) → 0 < s → w ≡ rows_before b n s → w' ≡ w ++ slot_row b s → w' ≡ rows_before b n (s + 1)
+before_next b w w' n s l e e' =
+    let q : s + 1 - 1 ≡ s - 1 + 1 = omega arith in
+    let p : s - 1 + 1 ≡ s = omega arith in
+    let r : slot_rows b 1 (s - 1 + 1) ≡ slot_rows b 1 (s - 1) ++ slot_row b s = rows_next b (s - 1) ∙ ap (λ (k : ℕ). slot_rows b 1 (s - 1) ++ slot_row b k) p in
+    rw (e', e, q, r) (append_assoc (first_row n (get16 b tokens_place)) (slot_rows b 1 (s - 1)) (slot_row b s))
 
--- with the first line before them
-pub area_written : (b : List ℕ) (n tokens : ℕ) {m e : ℕ} {w w' w'' : List ℕ} → tokens ≡ get16 b tokens_place → Written (first_row n tokens) 0 w m w' → Written (slot_rows b 1 n) m w' e w'' → Written (area_text b n) 0 w e w''
+pub before_end : (b w : List ℕ) (n s : ℕ) → s ≡ n + 1 → w ≡ rows_before b n s → w ≡ area_text b n
 unfolding area_text
-area_written b n tokens q h k = rw (← q) (written_join h k)
+before_end b w n s q e = let p : s - 1 ≡ n = omega arith in rw p at e
 
 -- ---- slots in order
 

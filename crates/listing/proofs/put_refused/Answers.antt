@@ -1,5 +1,7 @@
-use Rattle.listing.specs.Writing.{refused_written}
+use Rattle.std.proofs.Common.{rules}
+use Rattle.listing.specs.Text.{refused_text}
 use Rattle.listing.proofs.put_refused.Goals as goal
 
 pub returns : goal.returns
-returns c = refused_written _ _ _ c.put_text-a.ensures c.put_field-b.ensures.0 c.put_field-c.ensures.0 c.put_field.ensures.0
+unfolding refused_text
+returns c = search rules
