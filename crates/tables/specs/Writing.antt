@@ -1,5 +1,5 @@
 -- The laws that the code's proofs cite: the loops down a body and down a stem, and how the entries fill the tables.
-use Prim.Native.Nat.{ℕ, zero, suc, ◌+◌, ◌-◌, ◌*◌, ◌/◌, ◌%◌, ◌^◌, ◌≤◌, ◌<◌, min}
+use Prim.Native.Nat.{ℕ, zero, suc, ◌+◌, ◌-◌, ◌*◌, ◌/◌, ◌%◌, ◌^◌, ◌≤◌, ◌<◌}
 use Rattle.std.specs.Prelude.{◌≡◌, ◌⊎◌, Bool, List, [], ◌∷◌, ◌++◌, length, take, drop, Some, None, unwrap_or}
 use Rattle.std.proofs.Math.Path.{sym, ap}
 use Rattle.std.proofs.Common.{◌∙◌, append-nil, length-append, length-drop, length-take-le, drop_of_length-le, take_at, drop_at, get_or-take, get_or-drop}
@@ -22,7 +22,7 @@ use Rattle.tables.specs.Tables.{table_rows, row_size, predictions_size, breaks_s
 use Rattle.tables.specs.Grid.{Grid}
 use Rattle.grammar.specs.Prediction.{no_break}
 use Rattle.sets.specs.Words.{follows}
-use Rattle.tables.specs.Cells.{lead, step_of, next, stem_bits, mask_of, shared_from, behind_of, point_of, entry_of, step_at, down_of, meet_of, implied_of}
+use Rattle.tables.specs.Cells.{lead, step_of, next, stem_bits, shared_from, behind_of, point_of, step_at, down_of, meet_of, implied_of}
 
 -- ---- the first symbol that a begins
 

@@ -1,4 +1,4 @@
-use Rattle.std.proofs.Common.{◌≡◌, arith, rules}
+use Rattle.std.proofs.Common.{arith, rules}
 use Rattle.base.specs.Blocks.{zeros}
 use Rattle.tables.specs.Writing.{broken_none, broken_more, broken_all}
 use Rattle.tables.proofs.Stems.write_breaks.Goals as goal
