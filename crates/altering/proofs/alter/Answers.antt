@@ -1,3 +1,4 @@
+use Rattle.std.proofs.lemmas.Result.{err_from_is_err_and}
 use Rattle.altering.specs.Treed.{treed_sized, treed_long, treed_room}
 use Rattle.altering.specs.Outcome.{few_refused}
 use Rattle.altering.specs.Course.{sentence_long, course_ground, course_refused, course_fits, course_doubled, course_settled, few_altered}
@@ -22,4 +23,4 @@ returns-in_err-total c =
     let p = c.requires in
     let e = c.new_sentence-r.ensures in
     let q = err_from_is_err_and c.from_residual.result c.from_residual.ensures.1 in
-    rw q.1 (course_refused _ _ _ _ _ p.0 p.2 p.3 e.1 (e.0 _ (sentence_long _ p.3)) refl (search rules) _ c.in_err-total.ensures, few_refused _)
+    rw (q.1, q.2) (course_refused _ _ _ _ _ p.0 p.2 p.3 e.1 (e.0 _ (sentence_long _ p.3)) refl (search rules) _ c.in_err-total.ensures, few_refused _)
