@@ -2,6 +2,7 @@
 use Rattle.std.specs.Prelude.{ℕ, ◌-◌, ◌*◌, ◌≤◌, ◌<◌, true, false, ◌≡◌, refl, Result, Ok, Err, List, length, Option, Some, None}
 use Rattle.std.proofs.Common.{ap, ◌∙◌, arith}
 use Rattle.std.specs.Result.{MatchResult, IsErrAnd}
+use Rattle.std.specs.Option.{is_some, ok_or}
 use Rattle.base.specs.Bytes.{get16}
 use Rattle.base.specs.Tells.{Tells, tells_yes, tells_no}
 use Rattle.base.specs.Choose.{never}
@@ -14,8 +15,8 @@ use Rattle.edits.specs.Keeping.{Edit}
 use Rattle.altering.specs.Outcome.{Alters, AltersTree, Few}
 use Rattle.altering.specs.Treed.{Treed, treed, untreed}
 use Rattle.altering.specs.declared.Altered.{Altered}
-use Rattle.altering.specs.declared.ParseError.{ParseError}
-use Rattle.altering.specs.declared.ParseError.TheVariants as errors
+use Rattle.plain.specs.declared.ParseError.{ParseError}
+use Rattle.plain.specs.declared.ParseError.TheVariants as errors
 use Rattle.replies.specs.declared.Counts.{Counts}
 use Rattle.replies.specs.declared.Reason.{Reason}
 use Rattle.replies.specs.declared.Reason.TheVariants as reasons
@@ -29,13 +30,9 @@ use Rattle.calls.proofs.CallsUnique.{altered_parses}
 -- ---- replies 5 and 6: the old tree
 
 -- the walk tells whether an area is a valid tree
-pub tells_tree : {G : Grammar} {S : ℕ} {b w : List ℕ} {r : Option ℕ} (n : ℕ) → Reads G S b w r → r ≡ Some n
-    → Tells (Valid G S b) true
-tells_tree n h e = tells_yes (treed n h e).valid
-
-pub tells_none : {G : Grammar} {S : ℕ} {b w : List ℕ} {r : Option ℕ} → Reads G S b w r → r ≡ None
-    → Tells (Valid G S b) false
-tells_none h e = tells_no (untreed h e)
+pub tells_tree : {G : Grammar} {S : ℕ} {b w : List ℕ} (r : Option ℕ) → Reads G S b w r → Tells (Valid G S b) (is_some r)
+tells_tree (Some n) h = tells_yes (treed n h refl).valid
+tells_tree None h = tells_no (untreed h refl)
 
 -- the area is a valid tree or not; if it is, its nodes are listed in the work area, which had `room` bytes, or that is
 -- too short
@@ -46,13 +43,10 @@ pub data Finds (G : Grammar) (S : ℕ) (tree : List ℕ) (room : ℕ) (work : Li
   finds_short : Valid G S tree → room < work_areas * length tree → Finds G S tree room work (Err (reasons.ShortWork (work_areas * length tree)))
 
 module _ {G : Grammar} {S : ℕ} {tree : List ℕ} {room : ℕ} {work : List ℕ} where
-  pub walk_tree : {r : Option ℕ} (o : ℕ) → Reads G S tree work r → r ≡ Some o → work_areas * length tree ≤ room
-      → room ≡ length work → Finds G S tree room work (Ok o)
-  walk_tree o h e l m = finds_tree (treed o h e) l m
-
-  pub walk_none : {r : Option ℕ} → Reads G S tree work r → r ≡ None
-      → Finds G S tree room work (Err reasons.WrongTree)
-  walk_none h e = finds_none (untreed h e)
+  pub walk_found : (r : Option ℕ) → Reads G S tree work r → work_areas * length tree ≤ room → room ≡ length work
+      → Finds G S tree room work (ok_or r reasons.WrongTree)
+  walk_found (Some o) h l m = finds_tree (treed o h refl) l m
+  walk_found None h l m = finds_none (untreed h refl)
 
   -- the work area is too short
   pub short : (need : ℕ) → need ≡ work_areas * length tree → Valid G S tree → room < need

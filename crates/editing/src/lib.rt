@@ -15,8 +15,9 @@ ghost use Rattle.altering.specs.Treed.{Treed};
 ghost use Rattle.calls.specs.Checks.{Sized};
 ghost use Rattle.editing.specs.Editing.{Finds, Renews, edit_counts, reason_of};
 
-use altering::{Altered, Change, Language, ParseError};
+use altering::{Altered, Change, Language};
 use grammar::Head;
+use plain::ParseError;
 use replies::{Counts, Reason};
 
 // Whether an area of that many slots is a valid tree, found in a local array, where the lent work area is too short.

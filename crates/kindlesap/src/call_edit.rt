@@ -6,7 +6,6 @@ ghost use Rattle.calls.specs.Edit.{edit_call};
 
 use crate::checks::Analysis;
 use altering::{Change, Language};
-use plain::Tokens;
 use replies::{Counts, Reason};
 
 // The checks of edit in their order, then the new tree.
@@ -34,9 +33,8 @@ pub fn edit_checked(
     // Replies 5, 6
     let nodes = editing::old_tree(tree, slots, &found.rows, head, work)?;
     // Reply 7
-    match plain::read_tokens(tokens, head.t) {
-        Tokens::Good(_) => (),
-        Tokens::Bad(bad) => return Err(Reason::BadToken(bad as u64)),
+    if let Err(bad) = plain::read_tokens(tokens, head.t) {
+        return Err(Reason::BadToken(bad.number as u64));
     }
     // Reply 8
     let old_tokens = base::get16(tree, trees::TOKENS_PLACE);

@@ -12,7 +12,6 @@ ghost use Rattle.calls.specs.Parse.{store_call, parse_call};
 
 use crate::checks::Analysis;
 use altering::Language;
-use plain::{Parsed, Tokens};
 use replies::{Counts, Reason};
 
 // Replies 9 and 10, or the tree of good tokens.
@@ -30,11 +29,8 @@ fn parse_tokens(
 {
     let Language { rows, head, tables } = language;
     let m = tokens.len() / plain::TOKEN_SIZE;
-    let o = match parsing::parse_lent(tokens, m, tables, rows, head, slots, work) {
-        Parsed::Accepted(o) => o,
-        Parsed::Syntax(token, expected) => return Err(Reason::Syntax(token as u64, expected)),
-        Parsed::NoRoom => return Err(Reason::NoRoom),
-    };
+    let o = parsing::parse_lent(tokens, m, tables, rows, head, slots, work)
+        .map_err(editing::reason_of)?;
     trees::lay_out(work, o, rows, slots, tree);
     Ok(Counts {
         total: o as u32,
@@ -69,9 +65,8 @@ pub fn parse_checked(
         return Err(Reason::ShortWork(need as u64));
     }
     // Reply 7
-    match plain::read_tokens(tokens, head.t) {
-        Tokens::Good(_) => (),
-        Tokens::Bad(bad) => return Err(Reason::BadToken(bad as u64)),
+    if let Err(bad) = plain::read_tokens(tokens, head.t) {
+        return Err(Reason::BadToken(bad.number as u64));
     }
     // Replies 9, 10
     let language = Language {

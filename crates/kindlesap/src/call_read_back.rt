@@ -5,7 +5,6 @@ ghost use Rattle.calls.specs.ReadBack.{read_back_call};
 
 use crate::checks::Analysis;
 use replies::{Counts, Reason};
-use walks::Walked;
 
 // The checks of read back in their order, then the tokens. They are put together in a local, after the room for the tree's nodes.
 pub fn read_back_checked(image: &[u8], tree: &[u8], output: &mut [u8]) -> Result<Counts, Reason>
@@ -18,10 +17,7 @@ pub fn read_back_checked(image: &[u8], tree: &[u8], output: &mut [u8]) -> Result
     // Reply 5
     let slots = crate::checks::slots_of(tree.len()).ok_or(Reason::WrongTree)?;
     let mut work = [0u8; walks::WALK_SIZE];
-    let o = match walks::read_tree(tree, slots, &found.rows, head, &mut work) {
-        Walked::Tree(o) => o,
-        Walked::NoTree => return Err(Reason::WrongTree),
-    };
+    let o = walks::read_tree(tree, slots, &found.rows, head, &mut work).ok_or(Reason::WrongTree)?;
     // Reply 11
     let tokens = base::get16(tree, trees::TOKENS_PLACE);
     let need = plain::TOKEN_SIZE * tokens;

@@ -5,7 +5,7 @@ ghost use Rattle.tables.specs.Tables.{predictions_size};
 ghost use Rattle.kindlesap.specs.AreaChecks.{Slotted};
 ghost use Rattle.kindlesap.specs.GrammarChecks.{Checks};
 
-use grammar::{GrammarRead, Head};
+use grammar::Head;
 use replies::Reason;
 
 // What the checks of an image find: its grammar's rows, its words and its predictions.
@@ -33,18 +33,14 @@ impl Analysis {
         requires { self.old.cells ≡ zeros predictions_size }
         ensures { Checks image.now self.new result }
     {
-        let head = match grammar::read_grammar(image, &mut self.rows) {
-            GrammarRead::Good(head) => head,
-            GrammarRead::Bad(offset) => return Err(Reason::BadGrammar(offset as u64)),
-        };
+        let head = grammar::read_grammar(image, &mut self.rows)
+            .map_err(|bad| Reason::BadGrammar(bad.offset as u64))?;
         sets::analyse(&self.rows, head, &mut self.sets);
-        let useless = predictions::useless(&self.sets, head);
-        if useless != 0 {
+        if let Some(useless) = predictions::useless(&self.sets, head) {
             return Err(Reason::UselessSymbol(useless as u64));
         }
-        let conflict = predictions::predict(&self.rows, head, &self.sets, &mut self.cells);
-        if conflict != 0 {
-            return Err(Reason::NotLl1(conflict as u64));
+        if let Some(low) = predictions::predict(&self.rows, head, &self.sets, &mut self.cells) {
+            return Err(Reason::NotLl1(low as u64));
         }
         Ok(head)
     }

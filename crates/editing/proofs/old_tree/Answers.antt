@@ -1,5 +1,5 @@
 use borrow.Author.Rules.{rules}
-use Rattle.editing.specs.Editing.{finds_none, short, walk_tree, walk_none}
+use Rattle.editing.specs.Editing.{finds_none, short, walk_found}
 use Rattle.editing.proofs.old_tree.Goals as goal
 
 pub returns-then-is_tree : goal.returns-then-is_tree
@@ -11,8 +11,5 @@ returns-then-work-need c = finds_none (c.is_tree.ensures.no (search rules))
 pub read_tree-requires : goal.read_tree-requires
 read_tree-requires c = let z = c.requires.0 in (z.some, z.few, z.long, search rules, c.requires.1)
 
-pub returns-in-Tree : goal.returns-in-Tree
-returns-in-Tree c = walk_tree _ c.read_tree.ensures (search rules) (search rules) (search rules)
-
-pub returns-in-NoTree : goal.returns-in-NoTree
-returns-in-NoTree c = walk_none c.read_tree.ensures (search rules)
+pub returns : goal.returns
+returns c = rw c.ok_or.ensures.value (walk_found _ c.read_tree.ensures (search rules) (search rules))
