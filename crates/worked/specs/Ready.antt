@@ -1,5 +1,5 @@
 -- The reference grammar is prepared; its cells and steps, written out, and checked by computation.
-use Rattle.std.specs.Prelude.{ℕ, zero, suc, ◌+◌, ◌*◌, ◌/◌, ◌%◌, ◌≤◌, ◌<◌, ◌≡◌, refl, Bool, true, false, List, [], ◌∷◌, ◌++◌, get_or, eqb}
+use Rattle.std.specs.Prelude.{ℕ, zero, suc, ◌+◌, ◌*◌, ◌/◌, ◌%◌, ◌≤◌, ◌<◌, ◌≡◌, refl, Bool, true, false, None, List, [], ◌∷◌, ◌++◌, get_or, eqb}
 use Rattle.std.proofs.Common.{sym, ◌∙◌, eq-eqb, eqb-true, arith}
 use Rattle.std.proofs.Math.Logic.{by_cases}
 use Rattle.std.proofs.lemmas.Bool.{eqb-false}
@@ -46,7 +46,7 @@ busy = busy_more words 5 9 refl (busy_more words 5 8 refl (busy_more words 5 7 r
 
 useful : (M : ℕ) → Useless (grammar_in rows head) M → ⊥
 unfolding grammar_in
-useful = idle_useful known formed (none busy) refl
+useful = idle_useful known formed (none busy)
 
 -- the left sides, and the predictors as bits
 unfoldable lefts : List ℕ
@@ -99,11 +99,11 @@ no_clash M c =
     let w : ◌≡◌ {A = Bool} true false = sym x ∙ apart_no c.one c.other c.lookahead e f g in
     never (cc)
 
-low : Low rows words 8 0
+low : Low rows words 8 None
 low = Low.none no_clash
 
 pub prepared : Prepared (grammar_in rows head)
-prepared = record { formed = formed; useful = useful; ll1 = low_ll1 rows head words known formed useful low refl }
+prepared = record { formed = formed; useful = useful; ll1 = low_ll1 rows head words known formed useful low }
 
 pub reference_prepared : Prepared reference
 reference_prepared = rw is_reference at prepared
@@ -138,7 +138,7 @@ chosen_cell (suc k) M a l i =
     wider (empty f) n = empty (λ p m h. by_cases (ℕ_discrete p k) (λ q. n (rw q at h)) (λ q. f p (omega arith) h))
     wider (full {p = p} m h) n = full {p = p} (omega arith) h
 
-pub listed : Listed rows words 5 8 cells 0
+pub listed : Listed rows words 5 8 cells None
 unfolding cells zeros
 listed =
     record {

@@ -39,7 +39,7 @@ rest : sweep words ≡ words
 unfolding rows words swept produced_at produced closing passed turn stepped raised leads both turned choose left_at length_at symbol_at
 rest = refl
 
-settled : Settled rows 8 (begun 5 6) words 0
+settled : Settled rows 8 (begun 5 6) words
 settled =
     let w : Within (begun 5 6) (sweep (sweep (sweep (begun 5 6)))) =
     within_trans (within_swept rows false 8 8 (begun 5 6))
@@ -51,7 +51,7 @@ settled =
           rw thrice at
           (sound_swept rows H 8 l false 8 (omega arith)
           (sound_swept rows H 8 l false 8 (omega arith) (sound_swept rows H 8 l false 8 (omega arith) h)));
-      closed = λ _. rest;
+      closed = rest;
     }
 
 pub known : Known (grammar_in rows head) words
