@@ -7,8 +7,8 @@ use Rattle.grammar.specs.Grammar.{Grammar}
 use Rattle.grammar.specs.Forest.{yield}
 use Rattle.tables.specs.Tables.{Tables}
 use Rattle.trees.specs.Area.{work_areas, tokens_place, Valid}
-use Rattle.plain.specs.Outcome.{Told, is_bad}
-use Rattle.plain.specs.declared.Tokens.{Tokens}
+use Rattle.plain.specs.Tokens.{BadToken}
+use Rattle.plain.specs.Outcome.{Counted}
 use Rattle.edits.specs.Keeping.{edit_of}
 use Rattle.altering.specs.Outcome.{tokens_in}
 use Rattle.editing.specs.Editing.{Finds, finds_tree, finds_none, finds_short, tokens_counted, Renews}
@@ -62,12 +62,12 @@ module _ {image : List ℕ} {G : Grammar} (f : Fit image G) (tables tokens : Lis
 
     module _ (S : ℕ) (v : Valid G S tree) where
       module _ (l : work_areas * length tree ≤ room) where
-        pub edit_7 : {r : Tokens} (k : ℕ) → Told G.t tokens r → r ≡ Tokens.Bad k
+        pub edit_7 : {k : ℕ} → BadToken G.t tokens k
             → Outcome (edit_call image tables tokens place removed room tree) tree (Refused (reasons.BadToken k)) tree
-        edit_7 k u e =
-            by_3 (passed t (passed (valid_sized v) (passed (valid_holds v) (passed l (refused (at (is_bad k u e)))))))
+        edit_7 b =
+            by_3 (passed t (passed (valid_sized v) (passed (valid_holds v) (passed l (refused (at b))))))
 
-        module _ (m : ℕ) {r : Tokens} (u : Told G.t tokens r) (e : r ≡ Tokens.Good m) (k : ℕ)
+        module _ {m : ℕ} (u : Counted G.t tokens m) (k : ℕ)
             (c : k ≡ get16 tree tokens_place) where
           count_is : k ≡ length (yield v.tree)
           count_is = tokens_counted v k c
@@ -75,10 +75,10 @@ module _ {image : List ℕ} {G : Grammar} (f : Fit image G) (tables tokens : Lis
           pub edit_8 : (place + removed ≤ k → ⊥)
               → Outcome (edit_call image tables tokens place removed room tree) tree (Refused (reasons.BeyondTokens k)) tree
           edit_8 o =
-              rw count_is (by_3 (passed t (passed (valid_sized v) (passed (valid_holds v) (passed l (passed (counted m u e).sentence (refused (exactly (λ i. o (omega (arith, i, count_is)))))))))))
+              rw count_is (by_3 (passed t (passed (valid_sized v) (passed (valid_holds v) (passed l (passed (counted u).sentence (refused (exactly (λ i. o (omega (arith, i, count_is)))))))))))
 
           pub edit_rest : place + removed ≤ k → (r : Result Counts Reason) (tree' : List ℕ)
               → Renews G S (edit_of place removed (tokens_in tokens)) tree r tree'
               → Outcome (edit_call image tables tokens place removed room tree) tree (reply_of r) tree'
           edit_rest o r tree' h =
-              by_3 (passed t (passed (valid_sized v) (passed (valid_holds v) (passed l (passed (counted m u e).sentence (passed (omega (arith, o, count_is)) (h.all v)))))))
+              by_3 (passed t (passed (valid_sized v) (passed (valid_holds v) (passed l (passed (counted u).sentence (passed (omega (arith, o, count_is)) (h.all v)))))))

@@ -1,5 +1,5 @@
 -- The laws that the proofs of the calls cite: what the check of an image says of the grammar in the rows.
-use Rattle.std.specs.Prelude.{ℕ, zero, suc, ◌+◌, ◌≤◌, ◌<◌, ◌≡◌, refl, Result, Ok, Err, List, length}
+use Rattle.std.specs.Prelude.{ℕ, zero, suc, ◌+◌, ◌≤◌, ◌<◌, ◌≡◌, refl, Option, Some, None, Result, Ok, Err, List, length}
 use Rattle.std.proofs.Common.{ap, arith}
 use Rattle.base.specs.Choose.{never}
 use Rattle.grammar.specs.Limits.{max_terminals, max_nonterminals, max_productions}
@@ -9,7 +9,7 @@ use Rattle.grammar.specs.Image.{Image}
 use Rattle.grammar.specs.Rows.{symbol_space, productions_from, grammar_in, head_of, rows_of, rows_grammar, start_small}
 use Rattle.grammar.specs.Outcome.{Reads, reads_good, reads_bad}
 use Rattle.grammar.specs.declared.Head.{Head}
-use Rattle.grammar.specs.declared.GrammarRead.{GrammarRead}
+use Rattle.grammar.specs.declared.BadRecord.{BadRecord}
 use Rattle.sets.specs.Known.{Known}
 use Rattle.predictions.specs.Idle.{Idle, idle_lowest, idle_useful}
 use Rattle.predictions.specs.Listing.{Listed, Rowed}
@@ -36,7 +36,7 @@ length_productions : (rows : List ℕ) (k p : ℕ) → length (productions_from 
 length_productions rows zero p = refl
 length_productions rows (suc k) p = ap suc (length_productions rows k (p + 1))
 
-pub got_good : {image rows : List ℕ} {r : GrammarRead} (h : Head) → Reads image r rows → r ≡ GrammarRead.Good h
+pub got_good : {image rows : List ℕ} {r : Result Head BadRecord} (h : Head) → Reads image r rows → r ≡ Ok h
     → Image image (grammar_in rows h)
 got_good {image} h (reads_good G i) e =
     let q : head_of G ≡ h = cc in
@@ -44,10 +44,13 @@ got_good {image} h (reads_good G i) e =
     rw (← q) j
 got_good h (reads_bad b) e = never (cc)
 
-pub check_bad : {image rows : List ℕ} {a : Analysis} {r : GrammarRead} (k : ℕ) → Reads image r rows → r ≡ GrammarRead.Bad k
-    → Checks image a (Err (reasons.BadGrammar k))
-check_bad k (reads_good G i) e = never (cc)
-check_bad k (reads_bad {k = j} b) e = let q : j ≡ k = cc in unfit (bad_image (rw q at b))
+pub check_bad : {image rows : List ℕ} {a : Analysis} {r : Result Head BadRecord} (bad : BadRecord) → Reads image r rows → r ≡ Err bad
+    → Checks image a (Err (reasons.BadGrammar bad.offset))
+check_bad bad (reads_good G i) e = never (cc)
+check_bad bad (reads_bad {k = j} b) e =
+    let m : BadRecord = record { offset = j } in
+    let q : m ≡ bad = cc in
+    rw (← q) (unfit (bad_image b))
 
 module _ {image : List ℕ} (rows : List ℕ) (h : Head) (good : Image image (grammar_in rows h)) where
   f : WellFormed (grammar_in rows h)
@@ -62,26 +65,25 @@ module _ {image : List ℕ} (rows : List ℕ) (h : Head) (good : Image image (gr
     pub have_rows : Rowed rows h.t h.count
     have_rows = rowed rows h s k f
 
-    pub check_useless : {a : Analysis} (r : ℕ) → Idle s h.t h.n r → (r ≡ 0 → ⊥) → Checks image a (Err (reasons.UselessSymbol r))
+    pub check_useless : {a : Analysis} (r : ℕ) → Idle s h.t h.n (Some r) → Checks image a (Err (reasons.UselessSymbol r))
     unfolding grammar_in
-    check_useless r i z = unfit (useless good (idle_lowest k f i z))
+    check_useless r i = unfit (useless good (idle_lowest k f i))
 
-    no_useless : {r : ℕ} → Idle s h.t h.n r → r ≡ 0 → (M : ℕ) → Useless (grammar_in rows h) M → ⊥
-    unfolding grammar_in
-    no_useless i z = idle_useful k f i z
+    module _ (idle : Idle s h.t h.n None) (cells : List ℕ) where
+      no_useless : (M : ℕ) → Useless (grammar_in rows h) M → ⊥
+      unfolding grammar_in
+      no_useless = idle_useful k f idle
 
-    module _ (i : ℕ) (idle : Idle s h.t h.n i) (z : i ≡ 0) (cells : List ℕ) (low : ℕ)
-        (listed : Listed rows s h.t h.count cells low) where
-      pub check_conflict : {a : Analysis} → (low ≡ 0 → ⊥) → Checks image a (Err (reasons.NotLl1 low))
-      check_conflict q =
-          unfit (conflict good (no_useless idle z) (low_lowest rows h s k f (no_useless idle z) listed.conflict q))
+      pub check_conflict : {a : Analysis} (low : ℕ) → Listed rows s h.t h.count cells (Some low) → Checks image a (Err (reasons.NotLl1 low))
+      check_conflict low listed =
+          unfit (conflict good no_useless (low_lowest rows h s k f no_useless listed.conflict))
 
-      pub check_fits : low ≡ 0 → Checks image (record { rows = rows; sets = s; cells = cells }) (Ok h)
-      check_fits q =
+      pub check_fits : Listed rows s h.t h.count cells None → Checks image (record { rows = rows; sets = s; cells = cells }) (Ok h)
+      check_fits listed =
           fits good (record {
             known = k;
-            prepared = record { formed = f; useful = no_useless idle z; ll1 = low_ll1 rows h s k f (no_useless idle z) listed.conflict q };
-            listed = rw q at listed;
+            prepared = record { formed = f; useful = no_useless; ll1 = low_ll1 rows h s k f no_useless listed.conflict };
+            listed = listed;
           })
 
 -- ---- from the check's answer

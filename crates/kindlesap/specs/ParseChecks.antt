@@ -6,7 +6,7 @@ use mathlib.Core.List.{List, [], ◌∷◌, Memᴰ}
 use Rattle.grammar.specs.Each.{Each}
 use Rattle.grammar.specs.Grammar.{Grammar}
 use Rattle.grammar.specs.Prediction.{Prepared}
-use Rattle.grammar.specs.Forest.{Forest, size, Derives}
+use Rattle.grammar.specs.Forest.{Token, Forest, size, Derives}
 use Rattle.grammar.specs.Rows.{grammar_in}
 use Rattle.grammar.specs.declared.Head.{Head}
 use Rattle.tables.specs.Tables.{Tables}
@@ -15,12 +15,14 @@ use Rattle.trees.specs.Nodes.{Node, preorder, lists_forest, build, Formed, build
 use Rattle.trees.specs.Coded.{nodes_from, length_nodes, arity_in}
 use Rattle.trees.specs.Spread.{slots_of, Spread, slots_build, size_build}
 use Rattle.plain.proofs.Exactly.{accepted_exactly}
-use Rattle.plain.specs.Tokens.{token_size, tokens_from}
+use Rattle.plain.specs.Tokens.{token_size, tokens_from, BadToken}
 use Rattle.plain.specs.Text.{parse_size}
 use Rattle.plain.specs.Machine.{Ground, Numbered, Done}
-use Rattle.plain.specs.Outcome.{Counted, Told, is_good, is_bad, Ran, is_wrong, is_full}
-use Rattle.plain.specs.declared.Parsed.{Parsed}
-use Rattle.plain.specs.declared.Tokens.{Tokens}
+use Rattle.plain.specs.Plain.{Parses}
+use Rattle.plain.specs.Outcome.{Counted, verdict_of}
+use Rattle.plain.specs.declared.ParseError.{ParseError}
+use Rattle.plain.specs.declared.ParseError.TheVariants as errors
+use Rattle.editing.specs.Editing.{reason_of}
 use Rattle.altering.specs.Outcome.{tokens_in}
 use Rattle.altering.specs.Treed.{arity_rows}
 use Rattle.replies.specs.declared.Reply.{Reply}
@@ -109,25 +111,18 @@ module _ (rows : List ℕ) (head : Head) (S : ℕ) (b : List ℕ) (m o : ℕ) (w
 
 -- ---- replies 9 and 10
 
-module _ {G : Grammar} {S : ℕ} {b : List ℕ} {m : ℕ} {work : List ℕ} {r : Parsed} (u : Ran G S b m work r)
-    (tree : List ℕ) where
-  pub store_9 : (i e : ℕ) → r ≡ Parsed.Syntax i e
-      → Outcome (store_call G S (tokens_from b m 0)) tree (Refused (reasons.Syntax i e)) tree
-  store_9 i e q = refused (wrong_syntax (is_wrong i e u q))
-
-  pub store_10 : r ≡ Parsed.NoRoom → Outcome (store_call G S (tokens_from b m 0)) tree (Refused reasons.NoRoom) tree
-  store_10 q = refused (no_room (is_full u q))
+pub store_refused : {G : Grammar} {S : ℕ} {w : List Token} (e : ParseError) (tree : List ℕ) → Parses G S w (verdict_of e)
+    → Outcome (store_call G S w) tree (Refused (reason_of e)) tree
+store_refused (errors.Syntax i x) tree u = refused (wrong_syntax u)
+store_refused errors.NoRoom tree u = refused (no_room u)
 
 -- the work area holds the nodes, the tokens that a parse looks at, and the stack
 pub room_for : (S long room : ℕ) → Sized S long → work_areas * long ≤ room → parse_size S (S + 1) ≤ room
 room_for S long room z l = omega (arith, z.long, l)
 
 -- good tokens fill their bytes
-pub counted : {t : ℕ} {b : List ℕ} (m : ℕ) {r : Tokens} → Told t b r → r ≡ Tokens.Good m → Counted t b (length b / token_size)
-counted {b = b} m u e =
-    let c = is_good m u e in
-    let q : m ≡ length b / token_size = omega (arith, c.long) in
-    rw q at c
+pub counted : {t : ℕ} {b : List ℕ} {m : ℕ} → Counted t b m → Counted t b (length b / token_size)
+counted {b = b} {m = m} c = let q : m ≡ length b / token_size = omega (arith, c.long) in rw q at c
 
 -- ---- for each check: the outcome of the call where it refuses, and the rest of the call where it passes
 
@@ -157,18 +152,17 @@ module _ {image : List ℕ} {G : Grammar} (f : Fit image G) (tables tokens : Lis
       parse_6 need e l = rw e (by_3 (passed t (passed z (refused (exactly (λ m. omega (arith, e, l, m)))))))
 
       module _ (l : work_areas * long ≤ room) where
-        pub parse_7 : {r : Tokens} (k : ℕ) → Told G.t tokens r → r ≡ Tokens.Bad k
+        pub parse_7 : {k : ℕ} → BadToken G.t tokens k
             → Outcome (parse_call image tables tokens room long) tree (Refused (reasons.BadToken k)) tree
-        parse_7 k u e = by_3 (passed t (passed z (passed l (refused (at (is_bad k u e))))))
+        parse_7 b = by_3 (passed t (passed z (passed l (refused (at b)))))
 
-        pub parse_rest : (m : ℕ) {r : Tokens} → Told G.t tokens r → r ≡ Tokens.Good m
+        pub parse_rest : {m : ℕ} → Counted G.t tokens m
             → (reply : Reply) (tree' : List ℕ) → Outcome (store_call G S (tokens_in tokens)) tree reply tree'
             → Outcome (parse_call image tables tokens room long) tree reply tree'
-        parse_rest m u e reply tree' o = by_3 (passed t (passed z (passed l (passed (counted m u e).sentence o))))
+        parse_rest c reply tree' o = by_3 (passed t (passed z (passed l (passed (counted c).sentence o))))
 
 -- what a parse is given, from the checks before it
-pub grounded : (rows : List ℕ) (head : Head) (tables b : List ℕ) (m : ℕ) {r : Tokens} → Prepared (grammar_in rows head)
-    → Tables (grammar_in rows head) tables → Told head.t b r → r ≡ Tokens.Good m
-    → Ground rows head tables b (length b / token_size)
-grounded rows head tables b m p h u e =
-    let c = counted m u e in record { prepared = p; tables = h; long = c.long; kinds = c.kinds }
+pub grounded : (rows : List ℕ) (head : Head) (tables b : List ℕ) {m : ℕ} → Prepared (grammar_in rows head)
+    → Tables (grammar_in rows head) tables → Counted head.t b m → Ground rows head tables b (length b / token_size)
+grounded rows head tables b p h u =
+    let c = counted u in record { prepared = p; tables = h; long = c.long; kinds = c.kinds }

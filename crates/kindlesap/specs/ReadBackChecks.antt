@@ -1,6 +1,10 @@
 -- The laws that the proof of read back cites: what each check on the way says of the call.
-use Rattle.std.specs.Prelude.{ℕ, ◌-◌, ◌*◌, ◌≤◌, ◌<◌, ◌≡◌, Result, Err, List, ◌++◌, length, take, drop}
+use Rattle.std.specs.Prelude.{ℕ, ◌-◌, ◌*◌, ◌≤◌, ◌<◌, ◌≡◌, refl, Option, Some, None, Result, Ok, Err, List, ◌++◌, length, take, drop}
 use Rattle.std.proofs.Common.{ap, take_all, arith}
+use Rattle.std.specs.Option.{ok_or}
+use Rattle.base.specs.Choose.{never}
+use Rattle.grammar.specs.Grammar.{Grammar}
+use Rattle.walks.specs.Closing.{Reads}
 use Rattle.base.specs.Bytes.{get16}
 use Rattle.grammar.specs.Forest.{Token, yield}
 use Rattle.grammar.specs.Rows.{grammar_in}
@@ -11,7 +15,7 @@ use Rattle.plain.specs.Tokens.{token_size, token_bytes}
 use Rattle.matching.specs.Measure.{few_tokens}
 use Rattle.sentences.specs.Adding.{Added}
 use Rattle.sentences.specs.Leaves.{leaves_from, leaves_whole, Gave}
-use Rattle.altering.specs.Treed.{Treed, leaves, treed_fits}
+use Rattle.altering.specs.Treed.{Treed, treed, untreed, leaves, treed_fits}
 use Rattle.replies.specs.declared.Reply.{Reply}
 use Rattle.replies.specs.declared.Reason.{Reason}
 use Rattle.replies.specs.declared.Reason.TheVariants as reasons
@@ -31,6 +35,17 @@ tokens_fit rows head S tree nodes o m h e =
     let l = treed_fits rows head S tree nodes o h in
     let y = (valid_header h.valid).tokens in
     omega (arith, e, y, l, h.count, few_tokens h.valid.tree)
+
+-- ---- of a tree, or else reply 5
+module _ {G : Grammar} {S : ℕ} {b w : List ℕ} {r : Result ℕ Reason} where
+  pub tree_read : (o : Option ℕ) → Reads G S b w o → r ≡ ok_or o reasons.WrongTree → (n : ℕ) → r ≡ Ok n → Treed G S b w n
+  tree_read (Some k) h e n q = let t : k ≡ n = cc in treed n h (ap Some t)
+  tree_read None h e n q = never (cc)
+
+  pub tree_wrong : (o : Option ℕ) → Reads G S b w o → r ≡ ok_or o reasons.WrongTree → (p : Reason) → r ≡ Err p
+      → (p ≡ reasons.WrongTree) × (Valid G S b → ⊥)
+  tree_wrong (Some k) h e p q = never (cc)
+  tree_wrong None h e p q = (cc, untreed h refl)
 
 -- replies 1 to 3
 pub read_3 : (tree output : List ℕ) {image : List ℕ} {k : Analysis} {r : Result Head Reason} (p : Reason)

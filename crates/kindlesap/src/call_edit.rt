@@ -33,9 +33,7 @@ pub fn edit_checked(
     // Replies 5, 6
     let nodes = editing::old_tree(tree, slots, &found.rows, head, work)?;
     // Reply 7
-    if let Err(bad) = plain::read_tokens(tokens, head.t) {
-        return Err(Reason::BadToken(bad.number as u64));
-    }
+    plain::read_tokens(tokens, head.t).map_err(crate::checks::bad_token)?;
     // Reply 8
     let old_tokens = base::get16(tree, trees::TOKENS_PLACE);
     if !editing::in_range(place, removed, old_tokens) {

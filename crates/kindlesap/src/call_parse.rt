@@ -29,8 +29,9 @@ fn parse_tokens(
 {
     let Language { rows, head, tables } = language;
     let m = tokens.len() / plain::TOKEN_SIZE;
-    let o = parsing::parse_lent(tokens, m, tables, rows, head, slots, work)
-        .map_err(editing::reason_of)?;
+    let o = parsing::parse_lent(tokens, m, tables, rows, head, slots, work).map_err(
+        editing::reason_of,
+    )?;
     trees::lay_out(work, o, rows, slots, tree);
     Ok(Counts {
         total: o as u32,
@@ -65,9 +66,7 @@ pub fn parse_checked(
         return Err(Reason::ShortWork(need as u64));
     }
     // Reply 7
-    if let Err(bad) = plain::read_tokens(tokens, head.t) {
-        return Err(Reason::BadToken(bad.number as u64));
-    }
+    plain::read_tokens(tokens, head.t).map_err(crate::checks::bad_token)?;
     // Replies 9, 10
     let language = Language {
         rows: &found.rows,

@@ -5,8 +5,23 @@ ghost use Rattle.tables.specs.Tables.{predictions_size};
 ghost use Rattle.kindlesap.specs.AreaChecks.{Slotted};
 ghost use Rattle.kindlesap.specs.GrammarChecks.{Checks};
 
-use grammar::Head;
+use grammar::{BadRecord, Head};
+use plain::BadToken;
 use replies::Reason;
+
+// Reply 1.
+fn bad_grammar(bad: BadRecord) -> Reason
+    ensures { result ≡ Reason.BadGrammar bad.offset }
+{
+    Reason::BadGrammar(bad.offset as u64)
+}
+
+// Reply 7.
+pub fn bad_token(bad: BadToken) -> Reason
+    ensures { result ≡ Reason.BadToken bad.number }
+{
+    Reason::BadToken(bad.number as u64)
+}
 
 // What the checks of an image find: its grammar's rows, its words and its predictions.
 // A call owns it, and no check returns it: returned inside a Result it was copied, and prepare took 1.07 and parse 1.11 of the time.
@@ -33,8 +48,7 @@ impl Analysis {
         requires { self.old.cells ≡ zeros predictions_size }
         ensures { Checks image.now self.new result }
     {
-        let head = grammar::read_grammar(image, &mut self.rows)
-            .map_err(|bad| Reason::BadGrammar(bad.offset as u64))?;
+        let head = grammar::read_grammar(image, &mut self.rows).map_err(bad_grammar)?;
         sets::analyse(&self.rows, head, &mut self.sets);
         if let Some(useless) = predictions::useless(&self.sets, head) {
             return Err(Reason::UselessSymbol(useless as u64));

@@ -1,6 +1,6 @@
 use Rattle.std.proofs.lemmas.Result.{err_from_is_err_and}
 use Rattle.grammar.specs.Rows.{grammar_in, start_small}
-use Rattle.editing.specs.Editing.{found_tree}
+use Rattle.editing.specs.Editing.{found_tree, mapped_ok, mapped_err}
 use Rattle.kindlesap.specs.GrammarChecks.{checked_ready, checked_fit}
 use Rattle.kindlesap.specs.AreaChecks.{area_sized, area_wrong}
 use Rattle.kindlesap.specs.ParseChecks.{counted}
@@ -39,30 +39,35 @@ returns-in_err-nodes c =
     let p = err_from_is_err_and c.from_residual-in_err-nodes.result c.from_residual-in_err-nodes.ensures.1 in
     rw (p.1, p.2) (edit_5_6 f _ _ _ _ _ _ (c.is_prepared.ensures.yes c.if-not-is_prepared.false) _ z _ c.old_tree.ensures c.in_err-nodes.was)
 
-pub returns-in-Bad : goal.returns-in-Bad
+pub returns-in_err-map_err : goal.returns-in_err-map_err
 unfolding grammar_in
-returns-in-Bad c =
+returns-in_err-map_err c =
     let f = checked_fit _ c.check.ensures c.in_ok-head.was in
     let (h, l, k) = found_tree _ c.old_tree.ensures c.in_ok-nodes.was in
-    edit_7 f _ _ _ _ _ _ (c.is_prepared.ensures.yes c.if-not-is_prepared.false) _ h.valid l _ c.read_tokens.ensures c.in-Bad.is
+    let p = err_from_is_err_and c.from_residual-in_err-map_err.result c.from_residual-in_err-map_err.ensures.1 in
+    let e = mapped_err _ c.read_tokens.result _ c.map_err.ensures.cases c.in_err-map_err.was in
+    rw (p.1, p.2, e.2) (edit_7 f _ _ _ _ _ _ (c.is_prepared.ensures.yes c.if-not-is_prepared.false) _ h.valid l (rw e.1 at c.read_tokens.ensures))
 
 pub returns-then-not-in_range : goal.returns-then-not-in_range
 unfolding grammar_in
 returns-then-not-in_range c =
+    let mapped = mapped_ok _ c.read_tokens.result _ c.map_err.ensures.cases c.in_ok-map_err.was in
     let f = checked_fit _ c.check.ensures c.in_ok-head.was in
     let (h, l, k) = found_tree _ c.old_tree.ensures c.in_ok-nodes.was in
-    edit_8 f _ _ _ _ _ _ (c.is_prepared.ensures.yes c.if-not-is_prepared.false) _ h.valid l _ c.read_tokens.ensures c.in-Good.is _ c.get16-old_tokens.ensures.0 (c.in_range.ensures.no c.if-not-in_range.true)
+    edit_8 f _ _ _ _ _ _ (c.is_prepared.ensures.yes c.if-not-is_prepared.false) _ h.valid l (rw mapped at c.read_tokens.ensures) _ c.get16-old_tokens.ensures.0 (c.in_range.ensures.no c.if-not-in_range.true)
 
 pub renew-requires : goal.renew-requires
 renew-requires c =
+    let mapped = mapped_ok _ c.read_tokens.result _ c.map_err.ensures.cases c.in_ok-map_err.was in
     let f = checked_fit _ c.check.ensures c.in_ok-head.was in
     let (h, l, k) = found_tree _ c.old_tree.ensures c.in_ok-nodes.was in
     let i = c.in_range.ensures.yes c.if-not-in_range.false in
-    (f.prepared, c.is_prepared.ensures.yes c.if-not-is_prepared.false, h, (counted _ c.read_tokens.ensures c.in-Good.is).sentence, search rules, k)
+    (f.prepared, c.is_prepared.ensures.yes c.if-not-is_prepared.false, h, (counted (rw mapped at c.read_tokens.ensures)).sentence, search rules, k)
 
 pub returns : goal.returns
 unfolding grammar_in
 returns c =
+    let mapped = mapped_ok _ c.read_tokens.result _ c.map_err.ensures.cases c.in_ok-map_err.was in
     let f = checked_fit _ c.check.ensures c.in_ok-head.was in
     let (h, l, k) = found_tree _ c.old_tree.ensures c.in_ok-nodes.was in
-    edit_rest f _ _ _ _ _ _ (c.is_prepared.ensures.yes c.if-not-is_prepared.false) _ h.valid l _ c.read_tokens.ensures c.in-Good.is _ c.get16-old_tokens.ensures.0 (c.in_range.ensures.yes c.if-not-in_range.false) _ _ c.renew.ensures
+    edit_rest f _ _ _ _ _ _ (c.is_prepared.ensures.yes c.if-not-is_prepared.false) _ h.valid l (rw mapped at c.read_tokens.ensures) _ c.get16-old_tokens.ensures.0 (c.in_range.ensures.yes c.if-not-in_range.false) _ _ c.renew.ensures

@@ -1,5 +1,6 @@
 use Rattle.std.proofs.lemmas.Result.{err_from_is_err_and}
 use Rattle.grammar.specs.Rows.{grammar_in}
+use Rattle.editing.specs.Editing.{mapped_ok, mapped_err}
 use Rattle.kindlesap.specs.GrammarChecks.{checked_ready, checked_fit}
 use Rattle.kindlesap.specs.AreaChecks.{area_sized, area_wrong}
 use Rattle.kindlesap.specs.ParseChecks.{parse_3, parse_4, parse_5, parse_6, parse_7, parse_rest, grounded}
@@ -38,22 +39,26 @@ returns-then-work-need c =
     let z = area_sized _ c.slots_of.ensures c.ok_or.ensures.value _ c.in_ok-slots.was in
     parse_6 f _ _ _ _ _ (c.is_prepared.ensures.yes c.if-not-is_prepared.false) _ z _ (search rules) (search rules)
 
-pub returns-in-Bad : goal.returns-in-Bad
+pub returns-in_err-map_err : goal.returns-in_err-map_err
 unfolding grammar_in
-returns-in-Bad c =
+returns-in_err-map_err c =
     let f = checked_fit _ c.check.ensures c.in_ok-head.was in
     let z = area_sized _ c.slots_of.ensures c.ok_or.ensures.value _ c.in_ok-slots.was in
-    parse_7 f _ _ _ _ _ (c.is_prepared.ensures.yes c.if-not-is_prepared.false) _ z (search rules) _ c.read_tokens.ensures c.in-Bad.is
+    let p = err_from_is_err_and c.from_residual-in_err-map_err.result c.from_residual-in_err-map_err.ensures.1 in
+    let e = mapped_err _ c.read_tokens.result _ c.map_err.ensures.cases c.in_err-map_err.was in
+    rw (p.1, p.2, e.2) (parse_7 f _ _ _ _ _ (c.is_prepared.ensures.yes c.if-not-is_prepared.false) _ z (search rules) (rw e.1 at c.read_tokens.ensures))
 
 pub parse_tokens-requires : goal.parse_tokens-requires
 parse_tokens-requires c =
+    let mapped = mapped_ok _ c.read_tokens.result _ c.map_err.ensures.cases c.in_ok-map_err.was in
     let f = checked_fit _ c.check.ensures c.in_ok-head.was in
     let z = area_sized _ c.slots_of.ensures c.ok_or.ensures.value _ c.in_ok-slots.was in
-    (grounded _ _ _ _ _ f.prepared (c.is_prepared.ensures.yes c.if-not-is_prepared.false) c.read_tokens.ensures c.in-Good.is, z, search rules)
+    (grounded _ _ _ _ f.prepared (c.is_prepared.ensures.yes c.if-not-is_prepared.false) (rw mapped at c.read_tokens.ensures), z, search rules)
 
 pub returns : goal.returns
 unfolding grammar_in
 returns c =
+    let mapped = mapped_ok _ c.read_tokens.result _ c.map_err.ensures.cases c.in_ok-map_err.was in
     let f = checked_fit _ c.check.ensures c.in_ok-head.was in
     let z = area_sized _ c.slots_of.ensures c.ok_or.ensures.value _ c.in_ok-slots.was in
-    parse_rest f _ _ _ _ _ (c.is_prepared.ensures.yes c.if-not-is_prepared.false) _ z (search rules) _ c.read_tokens.ensures c.in-Good.is _ _ c.parse_tokens.ensures
+    parse_rest f _ _ _ _ _ (c.is_prepared.ensures.yes c.if-not-is_prepared.false) _ z (search rules) (rw mapped at c.read_tokens.ensures) _ _ c.parse_tokens.ensures

@@ -1,7 +1,8 @@
 use Rattle.std.proofs.Common.{◌≡◌}
 use Rattle.replies.specs.Reply.{no_counts}
-use Rattle.plain.specs.Outcome.{is_done}
-use Rattle.kindlesap.specs.ParseChecks.{room_for, fits_slots, done_fed, done_spread, store_done, store_9, store_10}
+use Rattle.std.proofs.lemmas.Result.{err_from_is_err_and}
+use Rattle.editing.specs.Editing.{mapped_ok, mapped_err}
+use Rattle.kindlesap.specs.ParseChecks.{room_for, fits_slots, done_fed, done_spread, store_done, store_refused}
 use borrow.Author.Rules.{rules}
 use Rattle.kindlesap.proofs.call_parse.parse_tokens.Goals as goal
 
@@ -10,20 +11,19 @@ parse_lent-requires c =
     let z = c.requires.1 in
     (c.requires.0, z.some, z.few, room_for _ _ _ z c.requires.2)
 
-pub returns-in-Syntax : goal.returns-in-Syntax
-returns-in-Syntax c =
-    store_9 c.parse_lent.ensures _ _ _ c.in-Syntax.is
-
-pub returns-in-NoRoom : goal.returns-in-NoRoom
-returns-in-NoRoom c =
-    store_10 c.parse_lent.ensures _ c.in-NoRoom.is
+pub returns-in_err-o : goal.returns-in_err-o
+returns-in_err-o c =
+    let p = err_from_is_err_and c.from_residual.result c.from_residual.ensures.1 in
+    let e = mapped_err _ c.parse_lent.result _ c.map_err.ensures.cases c.in_err-o.was in
+    rw (p.1, p.2, e.2) (store_refused e.0 _ (rw e.1 at c.parse_lent.ensures))
 
 pub lay_out-requires : goal.lay_out-requires
 lay_out-requires c =
     let z = c.requires.1 in
     let u = z.few in
     let v = z.long in
-    let d = is_done _ c.parse_lent.ensures c.in-Accepted.is in
+    let q = mapped_ok _ c.parse_lent.result _ c.map_err.ensures.cases c.in_ok-o.was in
+    let d = rw q at c.parse_lent.ensures in
     let f = fits_slots _ _ _ _ _ _ _ z.some d in
     let r = room_for _ _ _ z c.requires.2 in
     (search rules, search rules, search rules, search rules, done_spread _ _ _ _ _ _ _ z.some d, done_fed _ _ _ _ _ _ _ z.some d)
@@ -32,16 +32,16 @@ pub overflow_cast-result : goal.overflow_cast-result
 overflow_cast-result c =
     let z = c.requires.1 in
     let u = z.few in
-    let f = fits_slots _ _ _ _ _ _ _ z.some (is_done _ c.parse_lent.ensures c.in-Accepted.is) in
+    let f = fits_slots _ _ _ _ _ _ _ z.some (let q = mapped_ok _ c.parse_lent.result _ c.map_err.ensures.cases c.in_ok-o.was in rw q at c.parse_lent.ensures) in
     search rules
 
 pub overflow_cast-result-2 : goal.overflow_cast-result-2
 overflow_cast-result-2 c =
     let z = c.requires.1 in
     let u = z.few in
-    let f = fits_slots _ _ _ _ _ _ _ z.some (is_done _ c.parse_lent.ensures c.in-Accepted.is) in
+    let f = fits_slots _ _ _ _ _ _ _ z.some (let q = mapped_ok _ c.parse_lent.result _ c.map_err.ensures.cases c.in_ok-o.was in rw q at c.parse_lent.ensures) in
     search rules
 
 pub returns : goal.returns
 returns c =
-    let d : c.default.result ≡ no_counts = search rules in rw d (store_done _ _ _ _ _ _ _ c.requires.1.some (is_done _ c.parse_lent.ensures c.in-Accepted.is) _ _ c.lay_out.ensures)
+    let d : c.default.result ≡ no_counts = search rules in rw d (store_done _ _ _ _ _ _ _ c.requires.1.some (let q = mapped_ok _ c.parse_lent.result _ c.map_err.ensures.cases c.in_ok-o.was in rw q at c.parse_lent.ensures) _ _ c.lay_out.ensures)
