@@ -20,7 +20,7 @@ use plain::ParseError;
 // A grammar in the rows, and its tables.
 #[derive(Clone, Copy)]
 pub struct Language<'a> {
-    pub rows: &'a [u8; grammar::ROWS_SIZE],
+    pub rows: &'a [u8],
     pub head: Head,
     pub tables: &'a [u8],
 }
@@ -43,7 +43,7 @@ pub struct Altered {
 // Gives the k nodes of the new tree their slots and lays them out; how many are kept. They stand in the work area behind room for `slots` nodes of the old tree, which has o;
 // what is noted of both stands behind them.
 fn settle(
-    rows: &[u8; grammar::ROWS_SIZE],
+    rows: &[u8],
     slots: usize,
     o: usize,
     k: usize,

@@ -1,4 +1,4 @@
-// Bytes and runs of bytes. A read beyond the end gives 0, and a write there changes nothing, but for `two`, `four`, `eight`, `put_two` and `put_eight`, which ask to stay inside.
+// Bytes and runs of bytes. A read beyond the end gives 0, and `copy` writes as much as fits; `two`, `four`, `eight`, `put_two` and `put_eight` ask to stay inside.
 #![tactic(auto)]
 
 ghost use Rattle.std.specs.Prelude.{◌≡◌, ◌+◌, ◌*◌, ◌^◌, ◌<◌, ◌≤◌, min, length, drop, set};
@@ -7,27 +7,11 @@ ghost use Rattle.base.specs.Blocks.{zeros, copied};
 ghost use Rattle.base.specs.Tells.{Tells};
 ghost use Rattle.base.specs.Written.{get64, Eight};
 
-// A byte as a number to compute with.
-pub fn wide(x: u8) -> usize
-    ensures { (result ≡ x) × (result < 256) }
-{
-    usize::from(x)
-}
-
 // The byte at `at`, 0 beyond the end.
 pub fn byte_at(b: &[u8], at: usize) -> usize
     ensures { (result ≡ byte_at b.now at) × (result < 256) }
 {
     b.get(at).map_or(0, |x| usize::from(*x))
-}
-
-// Writes `v` at `at`, nothing beyond the end.
-pub fn put_byte(b: &mut [u8], at: usize, v: u8)
-    ensures { b.new ≡ set b.old at v }
-{
-    if at < b.len() {
-        b[at] = v;
-    }
 }
 
 // The first N bytes as a number, little-endian.
@@ -61,13 +45,6 @@ pub fn get32(b: &[u8], at: usize) -> usize
     ensures { (result ≡ get32m b.now at) × (result < 2 ^ 32) }
 {
     number::<4>(rest(b, at))
-}
-
-// Writes `v` as the two-byte number at `at`.
-pub fn put16(b: &mut [u8], at: usize, v: u16)
-    ensures { b.new ≡ put16m b.old at v }
-{
-    copy(b, at, &v.to_le_bytes());
 }
 
 // The same inside the bytes: one bound for all, so that they are read or written at once.
@@ -113,18 +90,6 @@ pub fn put_eight(b: &mut [u8], at: usize, v: usize)
     ensures { Eight b.old at v b.new }
 {
     put::<8>(b, at, v);
-}
-
-pub fn zero(w: &mut [u8])
-    ensures { w.new ≡ zeros (length w.old) }
-{
-    w.fill(0);
-}
-
-pub fn least(a: usize, b: usize) -> usize
-    ensures { result ≡ min a b }
-{
-    a.min(b)
 }
 
 // Writes `src` onto `dst` from `at` on, as much of it as fits.
