@@ -28,7 +28,7 @@ use Rattle.matching.specs.Finding.{Numbers}
 use Rattle.sentences.specs.Forming.{NewSentence}
 use Rattle.sentences.specs.Behind.{Fronted}
 use Rattle.sentences.specs.Grounding.{part_of, ground_of, parses_of, whole_of}
-use Rattle.altering.specs.Outcome.{renewed, alters_refused, Alters, AltersTree, Few}
+use Rattle.altering.specs.Outcome.{renewed, alters_refused, AltersTree, Few}
 use Rattle.altering.specs.Treed.{Treed, leaves, treed_fits}
 use Rattle.altering.specs.Settling.{Both}
 use Rattle.altering.specs.Parts.{nodes_drop}

@@ -1,5 +1,5 @@
 -- The laws that the proofs of the calls cite: what the check of an image says of the grammar in the rows.
-use Rattle.std.specs.Prelude.{ℕ, zero, suc, ◌+◌, ◌≤◌, ◌<◌, ◌≡◌, refl, Option, Some, None, Result, Ok, Err, List, length}
+use Rattle.std.specs.Prelude.{ℕ, zero, suc, ◌+◌, ◌≤◌, ◌<◌, ◌≡◌, refl, Some, None, Result, Ok, Err, List, length}
 use Rattle.std.proofs.Common.{ap, arith}
 use Rattle.base.specs.Choose.{never}
 use Rattle.grammar.specs.Limits.{max_terminals, max_nonterminals, max_productions}
