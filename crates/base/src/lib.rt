@@ -14,7 +14,7 @@ pub fn byte_at(b: &[u8], at: usize) -> usize
     b.get(at).map_or(0, |x| usize::from(*x))
 }
 
-// The first N bytes as a number, little-endian.
+// The first N bytes as a number, little-endian. One function for all widths: `from_le_bytes` is another one for each type.
 fn number<const N: usize>(b: &[u8]) -> usize
     requires { N ≤ 8 }
     ensures { (result ≡ number N b.now 0) × (result < 256 ^ N) }
@@ -33,7 +33,7 @@ fn rest(b: &[u8], at: usize) -> &[u8]
     &b[at.min(b.len())..]
 }
 
-// The two-byte number at `at`.
+// The two-byte number at `at`. These names promise what callers' proofs cite; each is one call of `number` or `put`.
 pub fn get16(b: &[u8], at: usize) -> usize
     ensures { (result ≡ get16m b.now at) × (result < 65536) }
 {
@@ -92,7 +92,7 @@ pub fn put_eight(b: &mut [u8], at: usize, v: usize)
     put::<8>(b, at, v);
 }
 
-// Writes `src` onto `dst` from `at` on, as much of it as fits.
+// Writes `src` onto `dst` from `at` on, as much of it as fits: `copy_from_slice` wants what just fits.
 pub fn copy(dst: &mut [u8], at: usize, src: &[u8])
     ensures { dst.new ≡ copied dst.old at src.now }
 {

@@ -58,7 +58,7 @@ pub fn in_range(place: u32, removed: u32, tokens: usize) -> bool
     place as usize + removed as usize <= tokens
 }
 
-// Replies 9 and 10.
+// Replies 9 and 10. No `From`: neither type is of this crate, nor may one of theirs name the other.
 pub fn reason_of(error: ParseError) -> Reason
     ensures { result ≡ reason_of error }
 {

@@ -43,7 +43,8 @@ pub const SYMBOL_SPACE: usize = 1 + MAX_TERMINALS + MAX_NONTERMINALS;
 
 pub const BODY_SPACE: usize = 1 + MAX_BODY;
 
-// What a good image's head says, and how many productions follow it.
+// What a good image's head says, and how many productions follow it. Rows and a head go side by side in calls, in no struct: a clause would say
+// `grammar_in rules.entry.rows.now rules.entry.head` for `grammar_in rows.now head`. No ghost field bounds the numbers: that would ask more of callers.
 #[derive(Clone, Copy, Debug, PartialEq, Eq)]
 pub struct Head {
     pub t: usize,
@@ -152,7 +153,7 @@ pub fn read_grammar(image: &[u8], rows: &mut [u8; ROWS_SIZE]) -> Result<Head, Ba
     outcome
 }
 
-// Byte j of row p, counted from 0.
+// Byte j of row p, counted from 0. The rows are bytes in fixed memory: the library has no heap.
 #[tactic(auto, using(crate::specs::Rows::row_reads))]
 fn row_byte(rows: &[u8], p: usize, j: usize) -> usize
     requires { j < row_size }

@@ -9,7 +9,7 @@ use grammar::{BadRecord, Head};
 use plain::BadToken;
 use replies::Reason;
 
-// Reply 1.
+// Reply 1. No `From`: neither type is of this crate.
 fn bad_grammar(bad: BadRecord) -> Reason
     ensures { result ≡ Reason.BadGrammar bad.offset }
 {

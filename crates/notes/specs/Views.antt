@@ -229,10 +229,6 @@ module _ (w : List ℕ) (S : ℕ) where
   pub field_is : (x r : ℕ) (f : Node → ℕ) → x < S + S → r ≡ f (node_at w x) → r ≡ f (node_at (nodes_in S w) x)
   field_is x r f l e = e ∙ ap f (sym (node_in x l))
 
--- a number is read, and is 0 or not
-pub tells_zero : (a b : ℕ) → a ≡ b → Tells (b ≡ 0) (eqb a 0)
-tells_zero a b q = record { yes = λ e. sym q ∙ eqb-true a 0 e; no = λ e z. eqb-false a 0 e (q ∙ z) }
-
 -- ---- writing
 
 module _ (w : List ℕ) (S : ℕ) (room : notes_size S ≤ length w) where

@@ -184,12 +184,19 @@ impl<'a> Notes<'a> {
         self.work[from..to].fill(0);
     }
 
-    // Whether slot s has no mark.
+    // The mark of slot s, 0 where it has none.
+    pub fn mark_of(&self, s: usize) -> usize
+        requires { s ≤ self.now.slots }
+        ensures { (result ≡ get_or (marks_of self.now) s 0) × (result < 256) }
+    {
+        usize::from(self.work[self.marks_at() + s])
+    }
+
     pub fn is_free(&self, s: usize) -> bool
         requires { s ≤ self.now.slots }
         ensures { Tells (get_or (marks_of self.now) s 0 ≡ 0) result }
     {
-        self.work[self.marks_at() + s] == 0
+        self.mark_of(s) == 0
     }
 
     // Marks slot s.

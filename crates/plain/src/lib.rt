@@ -175,6 +175,7 @@ impl Lent<'_, '_> {
 }
 
 // The plain parse of m good tokens into so many slots. The nodes are written at the beginning of `work`, the tokens stand behind the room for them, and the stack is at its end.
+// The promise speaks of the first m tokens behind the nodes, so that m stays beside `work`.
 pub fn parse(
     m: usize,
     tables: &[u8],

@@ -37,6 +37,7 @@ pub enum Reason {
     ShortOutput(u64),
 }
 
+// No `Result`: document 01 names the form, "Reply enum: Accepted holding a counts struct, Refused holding a reason enum".
 // "A reply is either accepted with its counts, or refused with one reason that holds its own place."
 #[derive(Clone, Copy, Debug, PartialEq, Eq)]
 pub enum Reply {
@@ -56,6 +57,7 @@ impl From<Result<Counts, Reason>> for Reply {
     }
 }
 
+// "a definition gives this paper's number and values for each case": one for each of a reply's three fields.
 pub fn number_of(reply: Reply) -> u64
     ensures { result ≡ number_of reply }
 {

@@ -88,6 +88,7 @@ fn put_tokens(text: &mut [u8], at: usize, tokens: &[u8], end: usize) -> usize
 }
 
 // Writes the first `limit` tokens of the new sentence, from byte `text` on: of n nodes' leaves, those from `place` on, `removed` of them, are replaced by the lent tokens. It answers how many tokens are written.
+// The promise speaks of n nodes at the beginning of `work`, so that n and `text` stay beside it.
 pub fn new_sentence(
     work: &mut [u8],
     n: usize,

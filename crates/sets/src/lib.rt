@@ -13,6 +13,7 @@ ghost use Rattle.sets.specs.Known.{Known};
 
 use grammar::Head;
 
+// The three words of all symbols in one array: the laws name a word by one number.
 pub const SETS_SIZE: usize = 3 * grammar::SYMBOL_SPACE;
 
 pub const FOLLOWS: usize = grammar::SYMBOL_SPACE;

@@ -57,7 +57,7 @@ impl Shape {
         }
     }
 
-    // The symbol below that of cell i's row on its stem to cell i's lookahead, or 0.
+    // The symbol below that of cell i's row on its stem to cell i's lookahead, or 0: steps are bytes in fixed memory, and 0 is no symbol.
     fn step_of(
         self,
         rows: &[u8],
@@ -162,7 +162,7 @@ impl Stems<'_> {
         )
     }
 
-    // The first symbol from x down to a that is in the mask.
+    // The first symbol from x down to a that is in the mask; 0 where none is, as `shared_from` says, on which the laws rest.
     fn shared(&self, a: usize, mask: u64, from: usize) -> usize
         requires ahead { a < columns }
         requires symbol { from < symbol_space }
@@ -179,7 +179,7 @@ impl Stems<'_> {
         0
     }
 
-    // The break point of m and n at a where n begins with a and m doesn't.
+    // The break point of m and n at a where n begins with a and m doesn't: document 01's byte, 255 where there is none.
     fn behind(&self, m: usize, n: usize, a: usize) -> usize
         requires ahead { a < columns }
         requires upper { m < symbol_space }

@@ -57,7 +57,7 @@ pub const TAG_PLACE: usize = 10;
 
 pub const SPARE_PLACE: usize = 14;
 
-// A node: its slot, its symbol and production (0 for a leaf), and its tag (0 unless a leaf).
+// A node: its slot, its symbol and production (0 for a leaf, as document 01's slots have it), and its tag (0 unless a leaf).
 #[derive(Clone, Copy, Debug, PartialEq, Eq)]
 pub struct Node {
     pub slot: u16,
@@ -101,6 +101,7 @@ pub fn node_in(nodes: &[u8], i: usize) -> Node
     }
 }
 
+// One field of `node_at`, as a number to compute with.
 pub fn symbol_of(nodes: &[u8], i: usize) -> usize
     ensures { (result ≡ (node_at nodes.now i).symbol) × (result < 256) }
 {
@@ -127,6 +128,7 @@ fn put_bytes(w: &mut [u8], at: usize, src: &[u8])
     w[at..at + src.len()].copy_from_slice(src);
 }
 
+// The bytes of a node, of its slot and of a header are three layouts, each written out.
 fn node_bytes(node: Node) -> [u8; NODE_SIZE]
     ensures { result ≡ node_bytes node }
 {

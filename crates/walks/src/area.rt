@@ -45,7 +45,7 @@ impl<'a> Area<'a> {
         }
     }
 
-    // Of slot s: its first child's slot and its next sibling's.
+    // Of slot s: its first child's slot and its next sibling's. Two lines of code: one function over the place would be longer.
     pub fn first_in(self, s: usize) -> usize
         requires { s ≤ self.slots }
         ensures { (result ≡ first_in self.entry.bytes.now s) × (result < 65536) }

@@ -90,7 +90,7 @@ impl<'a> Rules<'a> {
     }
 }
 
-// Where the marks begin.
+// Where the marks begin, behind the nodes and the frames: another layout than that of `notes`.
 fn marks_at(slots: usize) -> usize
     requires { slots ≤ max_slots }
     ensures { result ≡ marks_at slots }
@@ -183,6 +183,7 @@ fn wander(area: Area, rules: &Rules, w: &mut [u8]) -> Option<Walk>
         parent: 0,
         symbols: words::DIGIT + rules.head.start,
     };
+    // A `loop`: it goes by links and by a stack of frames.
     loop {
         let body = match visit(area, rules, due, w, nodes)? {
             Kids::Leaf => {
