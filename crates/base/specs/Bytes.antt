@@ -97,13 +97,7 @@ pub byte_put16 : (xs : List ℕ) (at v j : ℕ) → (j ≡ at → ⊥) → (j �
 byte_put16 xs at v j a b =
     get_or-set_other (set xs at (v % 256)) (at + 1) j (v / 256) 0 b ∙ get_or-set_other xs at j (v % 256) 0 a
 
--- a number byte by byte, from its last one down
-
-pub number_more : (n i m : ℕ) (xs : List ℕ) → 0 < i → i ≤ n → m ≡ number (n - i) xs i → 256 * m + byte_at xs (i - 1) ≡ number (n - (i - 1)) xs (i - 1)
-number_more n i m xs l h e =
-    let q : n - (i - 1) ≡ suc (n - i) = omega arith in
-    let p : i - 1 + 1 ≡ i = omega arith in
-    rw (q, p, e) (omega arith)
+-- how large a number of some bytes is
 
 pub number_small : (n : ℕ) (xs : List ℕ) (at : ℕ) → Bytes xs → number n xs at < 256 ^ n
 number_small zero xs at h = omega arith
@@ -113,11 +107,3 @@ number_small (suc n) xs at h = omega (arith, number_small n xs (at + 1) h, h at,
 pub number_room : (n k m : ℕ) (xs : List ℕ) → n ≤ 8 → 0 < k → Bytes xs → m ≡ number (n - k) xs k → 256 * m + 255 < 2 ^ 64
 number_room n k m xs l o h e =
     omega (arith, number_small (n - k) xs k h, pow-le-pow_right {n = 256} (omega arith) {i = n - k} {j = 7} (omega arith))
-
--- a four-byte number is two of two
-
-pub get32_two : (xs : List ℕ) (at v w : ℕ) → v ≡ get16 xs at → w ≡ get16 xs (at + 2) → v + 65536 * w ≡ get32 xs at
-get32_two xs at v w e f =
-    let q : at + 2 + 1 ≡ at + 3 = omega arith in
-    let g : w ≡ get_or xs (at + 2) 0 + 256 * get_or xs (at + 3) 0 = rw q at f in
-    omega arith

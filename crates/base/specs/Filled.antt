@@ -24,8 +24,3 @@ module _ (f : ℕ → ℕ) (at : ℕ) (w : List ℕ) where
         before = λ j m. get_or-set_other w' (at + k) j v 0 (omega arith) ∙ h.before j m;
         behind = λ j m. get_or-set_other w' (at + k) j v 0 (omega arith) ∙ h.behind j (omega arith);
       }
-
-  pub filled_all : (w' : List ℕ) (k n : ℕ) → n ≤ k → k ≤ n → Filled f at k w w' → Filled f at n w w'
-  filled_all w' k n l m h = let q : k ≡ n = omega arith in rw q at h
-
-pub ruleset filling = (filled_none, filled_more, filled_all)

@@ -59,10 +59,6 @@ module _ {a b : ℕ} {w w' : List ℕ} (h : Only a b w w') where
 unfoldable pub get64 : List ℕ → ℕ → ℕ
 get64 w at = get32 w at + 4294967296 * get32 w (at + 4)
 
-pub get64_two : (w : List ℕ) (at u v : ℕ) → u ≡ get32 w at → v ≡ get32 w (at + 4) → u + 4294967296 * v ≡ get64 w at
-unfolding get64
-get64_two w at u v e f = omega arith
-
 pub get64_same : (w w' : List ℕ) (at : ℕ) → ((i : ℕ) → at ≤ i → i < at + 8 → byte_at w' i ≡ byte_at w i) → get64 w' at ≡ get64 w at
 unfolding get64
 get64_same w w' at h =

@@ -1,5 +1,5 @@
 -- Tables written row by row, the first c columns of each: one column for each lookahead that the grammar has.
-use Rattle.std.specs.Prelude.{ℕ, ◌+◌, ◌*◌, ◌≤◌, ◌<◌, ◌≡◌, refl, List, length, get_or, set}
+use Rattle.std.specs.Prelude.{ℕ, ◌+◌, ◌*◌, ◌≤◌, ◌<◌, ◌≡◌, List, length, get_or, set}
 use Rattle.std.proofs.Common.{sym, ap, ◌∙◌, length-set, get_or-set_same, get_or-set_other, arith}
 use Rattle.std.proofs.Math.Logic.{by_cases}
 use Rattle.std.proofs.Math.Decide.{ℕ_discrete}
@@ -13,9 +13,6 @@ pub record Grid {T : Type 0} (d : T) (f : ℕ → T) (c n q b : ℕ) (w w' : Lis
   pub kept : (i : ℕ) → ((Q a : ℕ) → Q < n → a < c → i ≡ Q * columns + a → ⊥) → get_or w' i d ≡ get_or w i d
 
 module _ {T : Type 0} (d : T) (f : ℕ → T) (c n : ℕ) (w : List T) where
-  pub grid_none : Grid d f c n 0 0 w w
-  grid_none = record { long = refl; done = λ Q a l. absurd (omega arith); row = λ a l. absurd (omega arith); kept = λ i h. refl }
-
   pub grid_cell : (w' : List T) (q b : ℕ) (v : T) → c ≤ columns → q < n → b < c → q * columns + b < length w' → v ≡ f (q * columns + b)
       → Grid d f c n q b w w' → Grid d f c n q (b + 1) w (set w' (q * columns + b) v)
   grid_cell w' q b v k m l li ev h =

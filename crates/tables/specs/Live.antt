@@ -31,9 +31,6 @@ pub record Live (steps : List ℕ) (n c q b : ℕ) (live : List ℕ) (k : ℕ) :
   pub part : (a : ℕ) → a < b → (step_at steps (q * columns + a) ≡ 0 → ⊥) → Among live k (q * columns + a)
 
 module _ (steps : List ℕ) (n c : ℕ) where
-  pub live_none : (live : List ℕ) → Live steps n c 0 0 live 0
-  live_none live = record { few = omega arith; cell = λ j l. absurd (omega arith); done = λ Q a l. absurd (omega arith); part = λ a l. absurd (omega arith) }
-
   among_more : (live : List ℕ) (k i v : ℕ) → Among live k i → Among (set live k v) (k + 1) i
   among_more live k i v h = record { place = h.place; low = omega (arith, h.low); is = get_or-set_other live k h.place v 0 (omega (arith, h.low)) ∙ h.is }
 
@@ -89,9 +86,6 @@ pub record Quiet (steps : List ℕ) (n c : ℕ) (row : List ℕ) : Type 0 where
   pub dark : (Q a : ℕ) → Q < n → a < c → step_at steps (Q * columns + a) ≡ 0 → get_or row (Q * columns + a) 0 ≡ 0
 
 module _ (f : ℕ → ℕ) (live w : List ℕ) where
-  pub dotted_none : Dotted f live 0 w w
-  dotted_none = record { long = refl; done = λ i l. absurd (omega arith); kept = λ x h. refl }
-
   pub dotted_more : (w' : List ℕ) (j i v : ℕ) → i ≡ get_or live j 0 → i < length w' → v ≡ f i → Dotted f live j w w' → Dotted f live (j + 1) w (set w' i v)
   dotted_more w' j i v e l ev h =
       record {

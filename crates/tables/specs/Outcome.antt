@@ -1,6 +1,6 @@
 -- What is laid down are the tables of the grammar in the rows.
 use Prim.Native.Nat.{ℕ, ◌+◌, ◌*◌, ◌/◌, ◌%◌, ◌≤◌, ◌<◌}
-use Rattle.std.specs.Prelude.{◌≡◌, Bool, false, List, length, drop, None}
+use Rattle.std.specs.Prelude.{◌≡◌, Bool, List, drop, None}
 use Rattle.std.proofs.Math.Path.{sym}
 use Rattle.std.proofs.Common.{◌∙◌}
 use Rattle.std.proofs.Math.Logic.{by_cases}
@@ -8,7 +8,7 @@ use Rattle.std.proofs.Math.Decide.{dec_lt}
 use Rattle.std.proofs.Math.ListN.{get_or, length-drop}
 use Rattle.std.proofs.Math.Seq.{get_or-drop}
 use native.Mathlib.Omega.{arith}
-use Rattle.base.specs.Tells.{Tells, tells_no}
+use Rattle.base.specs.Tells.{Tells}
 use Rattle.grammar.specs.Limits.{max_terminals, max_nonterminals, columns}
 use Rattle.grammar.specs.Grammar.{Grammar}
 use Rattle.grammar.specs.Prediction.{Prepared, Break, not_first}
@@ -17,7 +17,7 @@ use Rattle.grammar.specs.declared.Head.{Head}
 use Rattle.sets.specs.Known.{Known}
 use Rattle.predictions.specs.Listing.{Cell, empty, full, Listed}
 use Rattle.predictions.specs.Verdict.{predicts_hit, hit_predicts}
-use Rattle.tables.specs.Tables.{predictions_size, tables_size, break_place, prediction_place, Prediction, some, none, Tables}
+use Rattle.tables.specs.Tables.{predictions_size, break_place, prediction_place, Prediction, some, none, Tables}
 use Rattle.tables.specs.Cells.{step_of, mask_of, entry_of, implied_of}
 use Rattle.tables.specs.Points.{point}
 use Rattle.tables.specs.Implied.{told_break, right_told}
@@ -124,7 +124,3 @@ module _ (rows : List ℕ) (head : Head) (s cells : List ℕ) (ready : Ready row
             yes = λ e. laid_tables (implied_of s steps head.t b) w (implied_right (u.yes e)) (u.yes e);
             no = λ e h. u.no e (tables_laid (implied_of s steps head.t b) w (right_implied h) h);
           }
-
--- bytes of another length are no tables
-pub told_longer : (G : Grammar) (w : List ℕ) → (length w ≡ tables_size → ⊥) → Tells (Tables G w) false
-told_longer G w n = tells_no (λ h. n h.size)

@@ -13,7 +13,6 @@ use Rattle.std.proofs.Math.Decide.{ℕ_discrete, dec_lt}
 use native.Mathlib.Omega.{arith}
 use Rattle.base.specs.Bits.{shift_one}
 use Rattle.base.specs.Choose.{choose}
-use Rattle.base.specs.Blocks.{zeros, byte_zeros, length_zeros}
 use Rattle.grammar.specs.Limits.{columns}
 use Rattle.grammar.specs.Rows.{symbol_space, length_at, symbol_at, symbols_from}
 use Rattle.grammar.specs.RowRules.{body_at}
@@ -30,9 +29,6 @@ pub record LeadAt (rows s : List ℕ) (p a j : ℕ) : Type 0 where
   pub is : lead s a (symbols_from rows p (length_at rows p - j) j) ≡ lead s a (body_at rows p)
 
 module _ (rows s : List ℕ) (p a : ℕ) where
-  pub lead_start : LeadAt rows s p a 0
-  lead_start = let q : length_at rows p - 0 ≡ length_at rows p = omega arith in record { is = rw q }
-
   opened : (j : ℕ) → j < length_at rows p → symbols_from rows p (length_at rows p - j) j ≡ symbol_at rows p j ∷ symbols_from rows p (length_at rows p - (j + 1)) (j + 1)
   opened j l = let q : length_at rows p - j ≡ suc (length_at rows p - (j + 1)) = omega arith in rw q
 
@@ -51,8 +47,6 @@ module _ (rows s : List ℕ) (p a : ℕ) where
   pub lead_none : (j : ℕ) → length_at rows p ≤ j → LeadAt rows s p a j → None ≡ lead s a (body_at rows p)
   unfolding lead
   lead_none j l h = let q : length_at rows p - j ≡ 0 = omega arith in rw q at h.is
-
-pub ruleset leading = (lead_start, lead_found, lead_on, lead_none)
 
 -- ---- the step of a cell
 
@@ -154,14 +148,6 @@ with_out r w row i l e m (inr x) =
     ∙ ap (λ (j : ℕ). get_or w j 0) z
 
 module _ (f : ℕ → ℕ → ℕ) (n c : ℕ) where
-  pub broken_none : (w : List ℕ) (m : ℕ) → m ≡ breaks_size → w ≡ zeros m → Broken f n c 0 w
-  broken_none w m l e =
-      record {
-        long = ap length e ∙ length_zeros m ∙ l;
-        done = λ R Q a x. absurd (omega arith);
-        other = λ R Q a x y z h. ap (λ (u : List ℕ). get_or u (break_place R Q a) 0) e ∙ byte_zeros m (break_place R Q a);
-      }
-
   -- row r is written
   module _ (w row : List ℕ) (r : ℕ) (ln : n ≤ table_rows) (lc : c ≤ columns) (lr : r < n) (h : Broken f n c r w) (u : Grid 0 (f r) c n n 0 (part r w) row) where
     long_row : length row ≡ row_size
@@ -183,9 +169,6 @@ module _ (f : ℕ → ℕ → ℕ) (n c : ℕ) where
               ∙ part_byte r w Q a y z ∙ ap (λ (i : ℕ). get_or w (break_place i Q a) 0) (sym e) ∙ h.other R Q a x y z (λ m. absurd (omega arith)))
               (λ e. with_out r w row (break_place R Q a) (omega arith) h.long long_row (beside R Q a e y z) ∙ h.other R Q a x y z (λ m q. g (omega arith) q));
         }
-
-  pub broken_all : (w : List ℕ) (r : ℕ) → n ≤ r → r ≤ n → Broken f n c r w → Broken f n c n w
-  broken_all w r l m h = let q : r ≡ n = omega arith in rw q at h
 
 -- ---- the two parts
 

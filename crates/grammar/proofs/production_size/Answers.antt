@@ -1,9 +1,6 @@
-use Rattle.grammar.specs.Reading.{starts_good, starts_symbols, starts_cut, part_body}
+use Rattle.grammar.specs.Reading.{starts_good, starts_symbols, part_body}
 use borrow.Author.Rules.{rules}
 use Rattle.grammar.proofs.production_size.Goals as goal
-
-pub returns-in_err-body : goal.returns-in_err-body
-returns-in_err-body c = rw c.from_residual.ensures (starts_cut _ _ _ _ c.from-length.ensures c.in_err-body.ensures.lookup.0, tt)
 
 pub returns-then-not-all_symbols : goal.returns-then-not-all_symbols
 returns-then-not-all_symbols c =

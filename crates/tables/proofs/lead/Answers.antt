@@ -1,9 +1,6 @@
 use Rattle.std.proofs.Common.{arith}
-use Rattle.tables.specs.Writing.{lead_found, lead_on, lead_none, lead_start}
+use Rattle.tables.specs.Writing.{lead_found, lead_on, lead_none}
 use Rattle.tables.proofs.lead.Goals as goal
-
-pub loop-j-init : goal.loop-j-init
-loop-j-init c = lead_start _ _ _ _
 
 pub returns-then-has-clause-first : goal.returns-then-has-clause-first
 returns-then-has-clause-first c = lead_found _ _ _ _ _ _ _ (omega arith) c.symbol_at-x.ensures.0 c.has.ensures c.if-has.true c.loop-j.invariant

@@ -1,12 +1,6 @@
 use Rattle.std.proofs.Common.{◌≡◌, ◌+◌, arith}
-use Rattle.tables.specs.Grid.{grid_none, grid_cell, grid_row}
+use Rattle.tables.specs.Grid.{grid_cell, grid_row}
 use Rattle.tables.proofs.Shape.fill.Goals as goal
-
-pub loop-q-init : goal.loop-q-init
-loop-q-init g c = λ d f h. grid_none d f _ _ _
-
-pub loop-a-init : goal.loop-a-init
-loop-a-init g c = λ d f h. c.loop-q.invariant d f h
 
 pub loop-a-preserved : goal.loop-a-preserved
 loop-a-preserved g c = λ d f h. grid_cell d f _ _ _ _ _ _ _ (omega arith) (omega arith) (omega arith) (omega arith) (h _ _ (omega arith) c.cell.ensures) (c.loop-a.invariant d f h)
