@@ -32,10 +32,6 @@ abbrev pub Slot : Option ℕ → Type 0
 Slot None = Unit {0}
 Slot (Some s) = (1 ≤ s) × (s < 65536)
 
-pub slot_in : (h : ℕ) (r : Option ℕ) → HoldsSlot h r → Slot r
-slot_in h None e = tt
-slot_in h (Some s) e = (e.1, e.2)
-
 pub slot_none : (w : List ℕ) (m : ℕ) → m ≡ 0 → 0 ≡ slot_by w m
 unfolding slot_by
 slot_none w m e = rw e

@@ -1,5 +1,5 @@
 -- A kept node whose subtree keeps the old one's slots node by node: the subtree's entries are numbers in a row.
-use Rattle.std.specs.Prelude.{ℕ, ◌+◌, ◌-◌, ◌≤◌, ◌<◌, ◌≡◌, refl, ◌⊎◌, List, length, get_or, set}
+use Rattle.std.specs.Prelude.{ℕ, ◌+◌, ◌-◌, ◌≤◌, ◌<◌, ◌≡◌, ◌⊎◌, List, length, get_or, set}
 use Rattle.std.proofs.Common.{◌∙◌, inl, inr, get_or-set_same, get_or-set_other, arith}
 use Rattle.std.proofs.Math.Logic.{by_cases}
 use Rattle.std.proofs.Math.Decide.{ℕ_discrete, dec_lt}
@@ -38,9 +38,6 @@ pub record InRow (ms : List ℕ) (i stop v : ℕ) (ms' : List ℕ) : Type 0 wher
   pub inner : (y : ℕ) → i ≤ y → y < stop → get_or ms' y 0 ≡ v + (y - i)
   pub low : (y : ℕ) → y < i → get_or ms' y 0 ≡ get_or ms y 0
   pub high : (y : ℕ) → stop ≤ y → get_or ms' y 0 ≡ get_or ms y 0
-
-pub row_start : (ms : List ℕ) (i v : ℕ) → InRow ms i i v ms
-row_start ms i v = record { inner = λ y l k. absurd (omega arith); low = λ y l. refl; high = λ y l. refl }
 
 pub row_next : {ms₀ ms ms' : List ℕ} {i y v : ℕ} → InRow ms₀ i y v ms → i ≤ y → y < length ms → ms' ≡ set ms y (v + (y - i)) → InRow ms₀ i (y + 1) v ms'
 row_next {ms = ms} {i = i} {y = y} {v = v} h l k e =

@@ -4,7 +4,7 @@ use Rattle.std.proofs.Common.{sym, ap, ◌∙◌, append_assoc, length-append, t
 use Rattle.std.proofs.Math.Logic.{by_cases}
 use Rattle.std.proofs.Math.Decide.{ℕ_discrete, dec_lt}
 use Rattle.grammar.specs.Forest.{Token, Forest, yield}
-use Rattle.trees.specs.Nodes.{Node as Entry, inner_node, leaf_node, preorder, leaves_of, Formed, leaves_append, leaves_yield, leaf_of, no_leaf, size_preorder}
+use Rattle.trees.specs.Nodes.{Node as Entry, inner_node, leaf_node, preorder, leaves_of, Formed, leaves_append, leaves_yield, leaf_of, size_preorder}
 use Rattle.trees.specs.Coded.{node_at, nodes_from, length_nodes}
 use Rattle.edits.specs.Keeping.{Edit, Kept, own, beside, Node}
 use Rattle.edits.specs.Places.{tree_size, at_number, Numbered, at_node, at_listed, at_leaves}
@@ -133,29 +133,6 @@ pub record Started (w : List ℕ) (i t : ℕ) (starts : List ℕ) : Type 0 where
 pub started_few : {w starts : List ℕ} {i t : ℕ} → Started w i t starts → t ≤ i
 started_few {w} {i = i} h = omega (arith, h.count, leaves_few w i)
 
-pub started_none : (w starts : List ℕ) → get_or starts 0 0 ≡ 0 → Started w 0 0 starts
-started_none w starts e =
-    record {
-      count = refl;
-      zero_is = e;
-      here = λ u o. let z : u ≡ 0 = omega arith in rw (z, e);
-      few = λ u o. let z : u ≡ 0 = omega arith in rw (z, e) (omega arith);
-      step = λ u o. absurd (omega arith);
-    }
-
-pub started_inner : (w starts : List ℕ) (i t p : ℕ) → p ≡ (node_at w i).production → (p ≡ 0 → ⊥) → Started w i t starts → Started w (i + 1) t starts
-started_inner w starts i t p e z h =
-    record {
-      count = h.count ∙ sym (leaves_next w i ∙ ap (λ (u : ℕ). leaves_to w i + u) (no_leaf (node_at w i).production (λ x. z (e ∙ x))) ∙ right (leaves_to w i));
-      zero_is = h.zero_is;
-      here = h.here;
-      few = λ u l. omega (arith, h.few u l);
-      step = h.step;
-    }
-  where
-    right : (u : ℕ) → u + 0 ≡ u
-    right u = omega arith
-
 pub started_leaf : (w starts starts' : List ℕ) (i t p : ℕ) → p ≡ (node_at w i).production → p ≡ 0 → t + 1 < length starts → starts' ≡ set starts (t + 1) (i + 1) → Started w i t starts → Started w (i + 1) (t + 1) starts'
 started_leaf w starts starts' i t p e z l f h =
     let k : leaves_to w (i + 1) ≡ t + 1 = leaves_next w i ∙ ap (λ (u : ℕ). leaves_to w i + leaf_of u) (sym e ∙ z) ∙ ap (λ (u : ℕ). u + 1) (sym h.count) in
@@ -207,16 +184,6 @@ pub data Found (w widths : List ℕ) (lo hi x : ℕ) : Option ℕ → Type 0 whe
 pub record Sought (w widths : List ℕ) (lo j x : ℕ) : Type 0 where
   pub absent : (y : ℕ) → lo ≤ y → y < j → (node_at w y).symbol ≡ x → (get_or widths y 0 ≡ 0 → ⊥) → ⊥
 
-sought_more : (w widths : List ℕ) (lo j x : ℕ) → ((node_at w j).symbol ≡ x → (get_or widths j 0 ≡ 0 → ⊥) → ⊥) → Sought w widths lo j x → Sought w widths lo (j + 1) x
-sought_more w widths lo j x n h =
-    record { absent = λ y a b c d. by_cases (ℕ_discrete y j) (λ e. n (rw e at c) (λ z. d (rw e z))) (λ e. h.absent y a (omega arith) c d) }
-
-pub sought_symbol : (w widths : List ℕ) (lo j x s : ℕ) → s ≡ (node_at w j).symbol → (s ≡ x → ⊥) → Sought w widths lo j x → Sought w widths lo (j + 1) x
-sought_symbol w widths lo j x s e n h = sought_more w widths lo j x (λ c d. n (e ∙ c)) h
-
-pub sought_void : (w widths : List ℕ) (lo j x v : ℕ) → v ≡ get_or widths j 0 → v ≡ 0 → Sought w widths lo j x → Sought w widths lo (j + 1) x
-sought_void w widths lo j x v e z h = sought_more w widths lo j x (λ c d. d (sym e ∙ z)) h
-
 pub found_none : (w widths : List ℕ) (lo j hi x : ℕ) → Sought w widths lo j x → hi ≤ j → Found w widths lo hi x None
 found_none w widths lo j hi x h l = Found.none (λ y a b. h.absent y a (omega arith))
 
@@ -238,10 +205,6 @@ WasTold place removed inserted t' None = (t : ℕ) → Was place removed inserte
 module _ (place removed inserted t' : ℕ) where
   pub was_before : t' < place → WasTold place removed inserted t' (Some t')
   was_before l = Was.before refl l
-
-  pub was_new : place ≤ t' → t' < place + inserted → WasTold place removed inserted t' None
-  was_new l k t (Was.before e m) = omega arith
-  was_new l k t (Was.after d e f) = omega arith
 
   pub was_after : place + inserted ≤ t' → WasTold place removed inserted t' (Some (t' - inserted + removed))
   was_after l =

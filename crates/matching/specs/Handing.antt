@@ -1,6 +1,6 @@
 -- A new node that keeps an old one's slot hands on to its children: those without tokens keep the slots of the old node's children without tokens at the same places.
 use Rattle.std.specs.Prelude.{ℕ, zero, suc, ◌+◌, ◌-◌, ◌≤◌, ◌<◌, ◌≡◌, refl, ◌⊎◌, List, length, get_or, set}
-use Rattle.std.proofs.Common.{sym, ap, ◌∙◌, inl, inr, length-set, get_or-set_same, get_or-set_other, arith}
+use Rattle.std.proofs.Common.{sym, ap, ◌∙◌, length-set, get_or-set_same, get_or-set_other, arith}
 use Rattle.std.proofs.Math.Logic.{by_cases}
 use Rattle.std.proofs.Math.Decide.{ℕ_discrete}
 
@@ -17,9 +17,6 @@ pub record Rising (ends : List ℕ) (lo hi : ℕ) : Type 0 where
 pub rise_low : {ends : List ℕ} {lo hi y v : ℕ} → Rising ends lo hi → lo ≤ y → y < hi → v ≡ get_or ends y 0 → y < v
 rise_low {y = y} h l k e = omega (arith, h.low y l k, e)
 
-pub rise_high : {ends : List ℕ} {lo hi y v : ℕ} → Rising ends lo hi → lo ≤ y → y < hi → v ≡ get_or ends y 0 → v ≤ hi
-rise_high {y = y} h l k e = omega (arith, h.high y l k, e)
-
 -- no entry is above n
 pub record Few (n : ℕ) (ms : List ℕ) : Type 0 where
   pub each : (z : ℕ) → get_or ms z 0 ≤ n
@@ -32,9 +29,6 @@ few_set {n} {ms} i v h l k f =
 
 pub few_set_one : {n : ℕ} {ms ms' : List ℕ} (i v : ℕ) → Few n ms → i < length ms → ms' ≡ set ms i v → v ≡ get_or ms' i 0
 few_set_one {ms = ms} i v h l f = rw f (sym (get_or-set_same ms i v 0 l))
-
-pub few_entry : {n v : ℕ} {ms : List ℕ} (i : ℕ) → Few n ms → v ≡ get_or ms i 0 → v ≤ n
-few_entry i h e = omega (arith, h.each i)
 
 -- ---- one child
 
@@ -83,25 +77,7 @@ pub record HandingAt (ends widths : List ℕ) (base i j : ℕ) (ms₀ : List ℕ
   pub rising : (x : ℕ) → x < m → (base ≤ kid ends i x) × (kid ends i x < c)
   pub handing : Handing ends widths base i j ms₀ m ms
 
-pub handing_start : (ends widths : List ℕ) (base i j : ℕ) (ms : List ℕ) → HandingAt ends widths base i j ms (i + 1) (j + 1) ms
-handing_start ends widths base i j ms =
-    record {
-      m = 0;
-      c_is = refl;
-      d_is = refl;
-      low_c = omega arith;
-      low_d = omega arith;
-      rising = λ x l. absurd (omega arith);
-      handing = record { long = refl; reach = λ x l. absurd (omega arith); given = λ x l. absurd (omega arith); others = λ z n. refl };
-    }
-
 module _ {ends widths : List ℕ} {base i j : ℕ} {ms₀ : List ℕ} {c d : ℕ} {ms : List ℕ} (h : HandingAt ends widths base i j ms₀ c d ms) where
-  pub handing_new : (last : ℕ) → last ≡ get_or ends i 0 → last ≤ c → HandedAll ends widths base i j ms₀ ms
-  handing_new last e l = record { count = h.m; handing = h.handing; ended = inl (omega (arith, h.c_is)) }
-
-  pub handing_old : (stop : ℕ) → stop ≡ get_or ends j 0 → stop ≤ d → HandedAll ends widths base i j ms₀ ms
-  handing_old stop e l = record { count = h.m; handing = h.handing; ended = inr (omega (arith, h.d_is)) }
-
   pub handing_next : {ms' : List ℕ} (last stop c' d' : ℕ) → last ≡ get_or ends i 0 → stop ≡ get_or ends j 0 → c < last → d < stop → base ≤ i → c - base < length ms → c' ≡ get_or ends c 0 → d' ≡ get_or ends d 0 → c < c' → d < d'
       → Handed widths c d base ms ms' → HandingAt ends widths base i j ms₀ c' d' ms'
   handing_next {ms'} last stop c' d' e f l k o r u v s t g =

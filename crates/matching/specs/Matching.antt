@@ -4,7 +4,7 @@ use Rattle.std.proofs.Common.{sym, ap, ◌∙◌, inl, inr, get_or-set_same, get
 use Rattle.std.proofs.Math.Logic.{by_cases}
 use Rattle.std.proofs.Math.Decide.{ℕ_discrete, dec_lt}
 use Rattle.grammar.specs.Forest.{Forest}
-use Rattle.trees.specs.Nodes.{trees, back, leaf_of, no_leaf}
+use Rattle.trees.specs.Nodes.{trees, back, leaf_of}
 use Rattle.trees.specs.Coded.{node_at}
 use Rattle.edits.specs.Keeping.{Edit, symbol, own, below, Node, Keeps}
 use Rattle.edits.specs.Places.{tree_size, at_number, at_token, at_below_parent, at_one, Numbered, at_node}
@@ -36,11 +36,6 @@ pub data Apart (place inserted t u : ℕ) : Type 0 where
   after : place + inserted ≤ t → Apart place inserted t u
   before : t + u < place → Apart place inserted t u
 
-pub apart_not : {place inserted t u : ℕ} → (u ≡ 0 → ⊥) → t < place + inserted → place ≤ t + u → Apart place inserted t u → ⊥
-apart_not z l k (Apart.void x) = z x
-apart_not z l k (Apart.after x) = omega arith
-apart_not z l k (Apart.before x) = omega arith
-
 -- ---- what a node with tokens looks for
 
 -- entry i after the search of the new node at index base + i, which starts with token t
@@ -56,12 +51,6 @@ pub data Seeks (w widths : List ℕ) (n T base place removed inserted i t : ℕ)
 pub record Stepped (w : List ℕ) (base i t i' t' : ℕ) : Type 0 where
   pub node : i' ≡ i + 1
   pub token : t' ≡ t + leaf_of (node_at w (base + i)).production
-
-pub step_inner : (w : List ℕ) (base i t p : ℕ) → p ≡ (node_at w (base + i)).production → (p ≡ 0 → ⊥) → Stepped w base i t (i + 1) t
-step_inner w base i t p e z = record { node = refl; token = omega (arith, no_leaf (node_at w (base + i)).production (λ x. z (e ∙ x))) }
-
-pub step_leaf : (w : List ℕ) (base i t p : ℕ) → p ≡ (node_at w (base + i)).production → p ≡ 0 → Stepped w base i t (i + 1) (t + 1)
-step_leaf w base i t p e z = record { node = refl; token = ap (λ (u : ℕ). t + leaf_of u) (sym z ∙ e) }
 
 -- the subtree of node i, which starts with token t, ends before node `stop`, and the edit doesn't touch it
 pub record Reach (ends widths : List ℕ) (base place inserted i t stop : ℕ) : Type 0 where
@@ -113,10 +102,6 @@ module _ {w widths : List ℕ} {n T base place removed inserted i t : ℕ} {ms :
   turned_row j u h e g x f =
       let o : j + 1 ≡ suc j = omega arith in
       Turned.carried j h (sym e ∙ o) g (rw o at x) (ap (λ (y : ℕ). t + y) f)
-
-pub reached : {ends widths : List ℕ} {base place inserted i t : ℕ} (stop end u : ℕ) → end ≡ get_or ends (base + i) 0 → u ≡ get_or widths (base + i) 0 → stop ≡ end - base → base + i < end → Apart place inserted t u
-    → Reach ends widths base place inserted i t stop
-reached stop end u e f d l o = record { end_is = omega arith; low = omega arith; apart = rw f at o }
 
 -- what the turns stand on: both lists are trees, both were measured, and the old tree's tokens were marked
 pub record Ready (rows w : List ℕ) (n base k : ℕ) (ends widths : List ℕ) (T : ℕ) (starts : List ℕ) : Type 0 where

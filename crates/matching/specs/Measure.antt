@@ -364,9 +364,6 @@ gauge_more {F} {base} {j} {ends₀} {widths₀} {ends} {widths} end width h o l 
       kept_widths = λ x v. get_or-set_other widths (base + (j - 1)) x width 0 (λ e. omega arith) ∙ h.kept_widths x v;
     })
 
-pub gauge_end : {F : Forest} {base j : ℕ} {ends₀ widths₀ ends widths : List ℕ} → Gauged F base j ends₀ widths₀ ends widths → j ≤ 0 → Gauged F base 0 ends₀ widths₀ ends widths
-gauge_end {j = j} h l = let e : j ≡ 0 = omega arith in rw e at h
-
 -- what was measured before `base` still is
 pub measured_kept : {F G : Forest} {base base' : ℕ} {ends₀ widths₀ ends widths : List ℕ} → Measured F base 0 ends₀ widths₀ → Gauged G base' 0 ends₀ widths₀ ends widths → base + size F ≤ base' → Measured F base 0 ends widths
 measured_kept h g l =

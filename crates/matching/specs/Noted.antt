@@ -6,7 +6,7 @@ use Rattle.trees.specs.Coded.{node_at}
 use Rattle.notes.specs.declared.Notes.{Notes}
 use Rattle.notes.specs.Views.{nodes_in, matches_in}
 use Rattle.notes.specs.Lists.{nodes_of, ends_of, widths_of, starts_of, matches_of, Lent, Same, same_then, Viewed}
-use Rattle.matching.specs.Measure.{tree_in, Built, Measured, Spanned, Gauged}
+use Rattle.matching.specs.Measure.{tree_in, Built, Spanned, Gauged}
 use Rattle.matching.specs.Finding.{Leaved, Started}
 use Rattle.matching.specs.Handing.{Rising, Few, Handed, HandedAll}
 use Rattle.matching.specs.Matching.{Stepped, Reach, Turned}
@@ -37,13 +37,6 @@ module _ {u v : Notes} {ns es ws ss ms : List ℕ} (h : Viewed u v ns es ws ss m
   pub matches_on : {v' : Notes} {ms' : List ℕ} → Viewed v v' (nodes_of v) (ends_of v) (widths_of v) (starts_of v) ms' → Viewed u v' ns es ws ss (matches_of v')
   matches_on g = record { same = same_then h.same g.same; nodes = g.nodes ∙ h.nodes; ends = g.ends ∙ h.ends; widths = g.widths ∙ h.widths; starts = g.starts ∙ h.starts; matches = refl }
 
-  -- of the lists, so of the work area
-  pub built_in : {rows : List ℕ} {n base : ℕ} → Built rows ns n base → Built rows (nodes_of v) n base
-  built_in g = rw h.nodes g
-
-  pub measured_in : (rows : List ℕ) (n : ℕ) {base i : ℕ} {ends widths : List ℕ} → Measured (tree_in rows ns n base) base i ends widths → Measured (tree_in rows (nodes_of v) n base) base i ends widths
-  measured_in rows n g = rw h.nodes g
-
   pub started_in : {n T : ℕ} → Started ns n T ss → Started (nodes_of v) n T (starts_of v)
   started_in g = rw (h.nodes, h.starts) g
 
@@ -55,9 +48,6 @@ module _ {u v : Notes} {ns es ws ss ms : List ℕ} (h : Viewed u v ns es ws ss m
 
   pub leaved_in : (k : ℕ) → Leaved ns es ws u.slots (u.slots + k) → Leaved (nodes_of v) (ends_of v) (widths_of v) v.slots (v.slots + k)
   leaved_in k g = rw (h.nodes, h.ends, h.widths, h.same.slots) g
-
-  pub width_in : (i : ℕ) {r : ℕ} → r ≡ get_or ws (u.slots + i) 0 → r ≡ get_or (widths_of v) (v.slots + i) 0
-  width_in i g = rw (h.widths, h.same.slots) g
 
   -- of the work area, so of the lists
   pub production_out : (x p : ℕ) → p ≡ (node_at (nodes_of v) x).production → p ≡ (node_at ns x).production

@@ -2,7 +2,7 @@
 use Prim.Native.Nat.{ℕ, zero, suc, ◌+◌, ◌-◌, ◌*◌, ◌≤◌, ◌<◌}
 use Rattle.std.specs.Prelude.{◌≡◌, refl, List, [], ◌∷◌, ◌++◌, length, take, drop}
 use Rattle.std.proofs.Math.Path.{sym}
-use Rattle.std.proofs.Common.{ap, ◌∙◌, append_assoc, append-nil, drop_of_length-le, take_all, take_at, drop_at}
+use Rattle.std.proofs.Common.{ap, ◌∙◌, append_assoc, append-nil, drop_of_length-le, take_all}
 use Rattle.std.proofs.Math.Seq.{drop-nil}
 use native.Mathlib.Omega.{arith}
 use Rattle.base.specs.Bytes.{le_bytes}
@@ -11,7 +11,7 @@ use Rattle.grammar.specs.Forest.{Token}
 use Rattle.trees.specs.Nodes.{Node, leaves_of}
 use Rattle.trees.specs.Coded.{node_at, nodes_from}
 use Rattle.plain.specs.Tokens.{token_size, token_bytes}
-use Rattle.sentences.specs.Adding.{Added, added_none, added_copy, added_more}
+use Rattle.sentences.specs.Adding.{Added, added_copy, added_more}
 
 -- the tokens of the leaves among n nodes, from node i on
 unfoldable pub leaves_from : List ℕ → ℕ → ℕ → List Token
@@ -54,9 +54,6 @@ pub record Gave (nodes : List ℕ) (n from : ℕ) (out : List ℕ) (at end i j :
   pub rest : leaves_from nodes n i ≡ drop (end - at) (leaves_from nodes n from)
 
 module _ (nodes : List ℕ) (n from : ℕ) (out : List ℕ) (at : ℕ) where
-  pub giving_none : Giving nodes n from out at from at out
-  giving_none = record { given = []; added = added_none out at; rest = refl }
-
   module _ (i j : ℕ) (out' : List ℕ) (h : Giving nodes n from out at i j out') where
     pub giving_inner : (e : Node) → i < n → e ≡ node_at nodes i → (e.production ≡ 0 → ⊥) → Giving nodes n from out at (i + 1) j out'
     giving_inner e l is z = record { given = h.given; added = h.added; rest = h.rest ∙ ap (λ (u : List Token). h.given ++ u) (leaves_inner nodes n i e l is z) }
@@ -72,14 +69,6 @@ module _ (nodes : List ℕ) (n from : ℕ) (out : List ℕ) (at : ℕ) where
           added = added_more (omega arith) h.added a;
           rest = h.rest ∙ ap (λ (u : List Token). h.given ++ u) (leaves_leaf nodes n i e l is z) ∙ sym (append_assoc h.given (k ∷ []) (leaves_from nodes n (i + 1)));
         }
-
-    -- as far as token `end`
-    pub gave_full : (end : ℕ) → j ≡ end → Gave nodes n from out at end i j out'
-    gave_full end e =
-        let c : length h.given ≡ end - at = omega (arith, h.added.count) in
-        let t : take (end - at) (leaves_from nodes n from) ≡ h.given = rw h.rest (take_at h.given (leaves_from nodes n i) (end - at) c) in
-        let d : drop (end - at) (leaves_from nodes n from) ≡ leaves_from nodes n i = rw h.rest (drop_at h.given (leaves_from nodes n i) (end - at) c) in
-        record { added = rw t h.added; rest = sym d }
 
     -- or all of them
     pub gave_all : (end : ℕ) → i ≡ n → j ≤ end → Gave nodes n from out at end n j out'
@@ -97,9 +86,6 @@ pub record Skipped (nodes : List ℕ) (n from k i left : ℕ) : Type 0 where
   pub is : drop left (leaves_from nodes n i) ≡ drop k (leaves_from nodes n from)
 
 module _ (nodes : List ℕ) (n from k : ℕ) where
-  pub skipped_none : Skipped nodes n from k from k
-  skipped_none = record { is = refl }
-
   module _ (i left : ℕ) (h : Skipped nodes n from k i left) where
     pub skipped_inner : (e : Node) → i < n → e ≡ node_at nodes i → (e.production ≡ 0 → ⊥) → Skipped nodes n from k (i + 1) left
     skipped_inner e l is z = record { is = rw (leaves_inner nodes n i e l is z) at h.is }
@@ -109,9 +95,6 @@ module _ (nodes : List ℕ) (n from k : ℕ) where
         let q : suc (left - 1) ≡ left = omega arith in
         let u : List Token = record { kind = e.symbol; tag = e.tag } ∷ leaves_from nodes n (i + 1) in
         record { is = ap (λ (x : ℕ). drop x u) q ∙ rw (leaves_leaf nodes n i e l is z) at h.is }
-
-    pub skipped_full : left ≡ 0 → Skipped nodes n from k i 0
-    skipped_full e = rw e at h
 
     pub skipped_all : i ≡ n → Skipped nodes n from k n 0
     skipped_all l =

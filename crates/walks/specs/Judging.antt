@@ -38,9 +38,6 @@ both_in b s v e k =
     let c = k.small (slot_size * s + 2) in
     (omega (arith, e, c), omega (arith, e, o, c))
 
-pub looks_low : {b : List ℕ} {s x : ℕ} → Known b → Looks b s x → x < 256
-looks_low {s = s} k h = omega (arith, h.symbol, k.small (slot_size * s + 2))
-
 -- as the code finds it
 module _ (b : List ℕ) (s x : ℕ) where
   pub looks_mark : (v : ℕ) → v ≡ get16 b (slot_size * s) → (v ≡ 0x444E → ⊥) → Tells (Looks b s x) false

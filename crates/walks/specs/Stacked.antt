@@ -2,13 +2,13 @@
 -- number (8). Behind room for a frame more than there are slots stand the marks, a byte for each slot, slot 0 too.
 use Rattle.std.specs.Prelude.{ℕ, suc, ◌+◌, ◌-◌, ◌*◌, ◌≤◌, ◌<◌, ◌≡◌, List, [], ◌∷◌, ◌++◌, length, set, take, drop}
 use Rattle.std.proofs.Math.Path.{sym, ap}
-use Rattle.std.proofs.Common.{◌∙◌, length-take, take_at, drop_at, ext_get_or, inl}
+use Rattle.std.proofs.Common.{◌∙◌, length-take, take_at, drop_at, ext_get_or}
 use Rattle.std.proofs.Math.ListN.{length-drop}
 use Rattle.std.proofs.Math.Seq.{get_or-take, get_or-drop, take-set-lt, length-take-le}
 use Rattle.std.proofs.lemmas.List.{drop-set-add}
 use native.Mathlib.Omega.{arith}
-use Rattle.base.specs.Bytes.{byte_at, get16, put16, get_put16}
-use Rattle.base.specs.Written.{Only, only_word, only_wider, only_then, word_kept, get64, get64_same, Eight}
+use Rattle.base.specs.Bytes.{byte_at, get16}
+use Rattle.base.specs.Written.{Only, get64, get64_same}
 use Rattle.base.specs.Blocks.{zeros, length_zeros}
 use Rattle.trees.specs.Coded.{node_size}
 use Rattle.walks.specs.Digits.{Digits}
@@ -68,21 +68,6 @@ pub record Framed (w : List ℕ) (at s par rest : ℕ) (w' : List ℕ) : Type 0 
   pub slot : s ≡ get16 w' at
   pub parent : par ≡ get16 w' (at + frame_parent)
   pub symbols : rest_at w' at ≡ rest
-
-pub framed_put : (w w1 w2 w3 : List ℕ) (at s par rest : ℕ) → at + frame_size ≤ length w → w1 ≡ put16 w at s → w2 ≡ put16 w1 (at + frame_parent) par → Eight w2 (at + frame_rest) rest w3
-    → Framed w at s par rest w3
-framed_put w w1 w2 w3 at s par rest l e1 e2 h =
-    let h1 : Only at (at + 2) w w1 = rw e1 (only_word w at s) in
-    let h2 : Only (at + frame_parent) (at + frame_parent + 2) w1 w2 = rw e2 (only_word w1 (at + frame_parent) par) in
-    let i1 : get16 w1 at ≡ s = rw e1 (get_put16 w at s (omega arith)) in
-    let i2 : get16 w2 (at + frame_parent) ≡ par = rw e2 (get_put16 w1 (at + frame_parent) par (omega (arith, h1.long))) in
-    record {
-      only = only_then (only_then (only_wider at (at + frame_size) (omega arith) (omega arith) h1) (only_wider at (at + frame_size) (omega arith) (omega arith) h2))
-          (only_wider at (at + frame_size) (omega arith) (omega arith) h.only);
-      slot = sym (word_kept h.only at (inl (omega arith)) ∙ word_kept h2 at (inl (omega arith)) ∙ i1);
-      parent = sym (word_kept h.only (at + frame_parent) (inl (omega arith)) ∙ i2);
-      symbols = h.is;
-    }
 
 -- ---- the marks
 

@@ -1,12 +1,9 @@
 use Rattle.std.proofs.Common.{◌≡◌, ◌+◌, ◌-◌}
 use Rattle.notes.specs.Views.{length_field}
-use Rattle.matching.specs.Carrying.{row_start, row_next}
-use Rattle.matching.specs.Noted.{viewed_all, matches_on}
+use Rattle.matching.specs.Carrying.{row_next}
+use Rattle.matching.specs.Noted.{matches_on}
 use borrow.Author.Rules.{rules}
 use Rattle.matching.proofs.carry.Goals as goal
-
-pub loop-y-init : goal.loop-y-init
-loop-y-init c = record { row = row_start _ _ _; viewed = viewed_all _ }
 
 pub loop-y-preserved : goal.loop-y-preserved
 loop-y-preserved c =
@@ -16,6 +13,3 @@ loop-y-preserved c =
       row = row_next u.row (search rules) (rw length_field (search rules)) (rw k at c.set_match.ensures.matches);
       viewed = matches_on u.viewed c.set_match.ensures;
     }
-
-pub returns : goal.returns
-returns c = let q : c.loop-y.y ≡ c.args.stop = search rules in (rw q at c.loop-y.invariant.row, c.loop-y.invariant.viewed)

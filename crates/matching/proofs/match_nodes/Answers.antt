@@ -1,14 +1,8 @@
 use Rattle.matching.specs.Finding.{leaved}
 use Rattle.matching.specs.Through.{blank_zeros, first_zero, rising_old, rising_new, matched_all}
-use Rattle.matching.specs.Noted.{spans_on, starts_on, matches_on, built_in, started_in, rising_in, rising_new_in, leaved_in, gauged_out, started_out, matches_out, built_lent, new_lent, one_lent, matching_lent, few_lent, nodes_lent}
+use Rattle.matching.specs.Noted.{spans_on, starts_on, matches_on, started_in, rising_in, rising_new_in, leaved_in, gauged_out, started_out, matches_out, built_lent, new_lent, one_lent, matching_lent, few_lent, nodes_lent}
 use borrow.Author.Rules.{rules}
 use Rattle.matching.proofs.match_nodes.Goals as goal
-
-pub measure-requires : goal.measure-requires
-measure-requires c = (built_in c.clear.ensures (built_lent c.new-notes.ensures.1 c.requires.0), search rules)
-
-pub measure-requires-2 : goal.measure-requires-2
-measure-requires-2 c = (built_in (spans_on c.clear.ensures c.measure.ensures.1) (built_lent c.new-notes.ensures.1 c.requires.1), search rules)
 
 pub mark_starts-tokens-requires : goal.mark_starts-tokens-requires
 mark_starts-tokens-requires c = (search rules, first_zero _ _ (spans_on (spans_on c.clear.ensures c.measure.ensures.1) c.measure-2.ensures.1).starts)

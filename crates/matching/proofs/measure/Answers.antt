@@ -1,14 +1,11 @@
 use Rattle.notes.specs.Views.{length_field}
-use Rattle.matching.specs.Measure.{gauge_start, gauge_next, gauge_more, gauge_end}
-use Rattle.matching.specs.Noted.{viewed_all, built_in, measured_in, spanned_out, spans_on}
+use Rattle.matching.specs.Measure.{gauge_start, gauge_more}
+use Rattle.matching.specs.Noted.{viewed_all, spanned_out, spans_on}
 use borrow.Author.Rules.{rules}
 use Rattle.matching.proofs.measure.Goals as goal
 
 pub loop-i-init : goal.loop-i-init
 loop-i-init c = record { gauged = gauge_start _ _ _ _ _ _; viewed = viewed_all _ }
-
-pub span_of-span-requires : goal.span_of-span-requires
-span_of-span-requires c = let u = c.loop-i.invariant in (built_in u.viewed c.requires.0, search rules, search rules, measured_in u.viewed _ _ (gauge_next u.gauged c.loop-i-test.true))
 
 pub loop-i-preserved : goal.loop-i-preserved
 loop-i-preserved c =
@@ -17,6 +14,3 @@ loop-i-preserved c =
       gauged = gauge_more _ _ u.gauged c.loop-i-test.true (rw length_field (search rules)) (rw length_field (search rules)) (spanned_out u.viewed _ _ c.span_of-span.ensures.0) c.set_span.ensures.ends c.set_span.ensures.widths;
       viewed = spans_on u.viewed c.set_span.ensures;
     }
-
-pub returns : goal.returns
-returns c = (gauge_end c.loop-i.invariant.gauged (search rules), c.loop-i.invariant.viewed)

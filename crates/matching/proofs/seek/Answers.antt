@@ -14,9 +14,6 @@ returns-then-at-change c =
     let h = c.set_match.ensures in
     (seeks_front (search rules) h.matches, few_set _ _ c.requires.4 (rw length_field (search rules)) (search rules) h.matches, matches_on (viewed_all _) h, few_set_one _ _ c.requires.4 (rw length_field (search rules)) h.matches)
 
-pub set_match-requires-2 : goal.set_match-requires-2
-set_match-requires-2 c = let x = sourced_few c.source-j.ensures in search rules
-
 pub returns : goal.returns
 returns c =
     let x = sourced_few c.source-j.ensures in

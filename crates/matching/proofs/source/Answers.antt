@@ -1,4 +1,4 @@
-use Rattle.matching.specs.Finding.{started_few, starts_in_lem, source_new, source_beyond, source_found}
+use Rattle.matching.specs.Finding.{started_few, source_new, source_beyond, source_found}
 use borrow.Author.Rules.{rules}
 use Rattle.matching.proofs.source.Goals as goal
 
@@ -13,9 +13,6 @@ start_of-lo-requires c = let x = started_few c.requires.1 in search rules
 
 pub start_of-hi-requires : goal.start_of-hi-requires
 start_of-hi-requires c = let x = started_few c.requires.1 in search rules
-
-pub find-requires : goal.find-requires
-find-requires c = let x = starts_in_lem c.requires.1 (search rules) c.start_of-hi.ensures.0 in search rules
 
 pub returns : goal.returns
 returns c = source_found _ _ _ _ _ _ _ _ _ c.requires.1 c.in_ok-u.ensures (search rules) c.start_of-lo.ensures.0 c.start_of-hi.ensures.0 c.find.ensures

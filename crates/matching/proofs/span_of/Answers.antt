@@ -9,12 +9,6 @@ returns-then-p-eq0 c = (span_leaf _ _ _ _ c.requires.0 _ c.requires.1 (sym c.pro
 pub loop-m-init : goal.loop-m-init
 loop-m-init c = hop_start _ _ _ _ c.requires.0 _ c.requires.1 _ _ c.production_of-p.ensures.0 c.if-p-eq0.false c.length_at-k.ensures.0
 
-pub width_of-width-requires : goal.width_of-width-requires
-width_of-width-requires c = let x = c.loop-m.invariant.on c.loop-m-test.true in search rules
-
-pub end_of-end-requires : goal.end_of-end-requires
-end_of-end-requires c = let x = c.loop-m.invariant.on c.loop-m-test.true in search rules
-
 pub loop-m-preserved : goal.loop-m-preserved
 loop-m-preserved c = hop_next _ _ _ _ c.requires.0 _ c.requires.1 _ _ _ _ c.loop-m-test.true c.loop-m.invariant c.width_of-width.ensures.0 c.end_of-end.ensures.0 c.requires.3
 

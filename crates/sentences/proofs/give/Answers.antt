@@ -1,13 +1,7 @@
 use Rattle.std.proofs.Common.{rules, arith}
-use Rattle.sentences.specs.Leaves.{giving_none, giving_inner, giving_leaf, gave_full, gave_all}
+use Rattle.sentences.specs.Leaves.{giving_inner, giving_leaf, gave_all}
 use Rattle.sentences.proofs.give.Goals as goal
 use Rattle.sentences.proofs.give.Goals.{then-leaf-eq0, else-leaf-eq0}
-
-pub loop-node-init : goal.loop-node-init
-loop-node-init c = (search rules, giving_none _ _ _ _ _)
-
-pub returns-then-token-end : goal.returns-then-token-end
-returns-then-token-end c = (gave_full _ _ _ _ _ _ _ _ c.loop-node.invariant.1 _ (search rules), search rules, search rules)
 
 pub loop-node-preserved : goal.loop-node-preserved
 loop-node-preserved c =

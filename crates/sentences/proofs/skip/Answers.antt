@@ -1,13 +1,7 @@
 use Rattle.std.proofs.Common.{rules, arith}
-use Rattle.sentences.specs.Leaves.{skipped_none, skipped_inner, skipped_leaf, skipped_full, skipped_all}
+use Rattle.sentences.specs.Leaves.{skipped_inner, skipped_leaf, skipped_all}
 use Rattle.sentences.proofs.skip.Goals as goal
 use Rattle.sentences.proofs.skip.Goals.{then-node_in-eq0, else-node_in-eq0}
-
-pub loop-i-init : goal.loop-i-init
-loop-i-init c = skipped_none _ _ _ _
-
-pub returns-then-left-eq0 : goal.returns-then-left-eq0
-returns-then-left-eq0 c = (skipped_full _ _ _ _ _ _ c.loop-i.invariant (search rules), search rules)
 
 pub loop-i-preserved : goal.loop-i-preserved
 loop-i-preserved c =
