@@ -156,9 +156,6 @@ module _ {all : List ℕ} {fs : List (ℕ × ℕ)} {i at : ℕ} {b : List ℕ} (
         let t : gs ≡ drop (i + 1) fs = cc in
         (m, ap (λ (u : ℕ × ℕ). u.0 + m) q, rw q at s, rw t at z)
 
-    pub laid_fits : (field.0 ≤ place_size) × (at + field.0 ≤ reply_size)
-    laid_fits = let q = first h.sized opened in let r = h.room in (q.2, omega arith)
-
     pub laid_more : (v s : List ℕ) (m n : ℕ) → v ≡ to_le_bytes w64 field.1 → s ≡ take m v → m ≡ field.0 → n ≡ field.0
         → Laid all fs (i + 1) (at + field.0) (take at b ++ (s ++ drop n (drop at b)))
     unfolding fields_bytes
