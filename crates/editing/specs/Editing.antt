@@ -3,6 +3,7 @@ use Rattle.std.specs.Prelude.{ℕ, ◌-◌, ◌*◌, ◌≤◌, ◌<◌, ◌≡�
 use Rattle.std.proofs.Common.{ap, ◌∙◌, arith}
 use Rattle.std.specs.Result.{MatchResult, IsErrAnd}
 use Rattle.std.specs.Option.{is_some, ok_or}
+use Rattle.std.proofs.lemmas.Result.{err_from_is_err_and}
 use Rattle.base.specs.Bytes.{get16}
 use Rattle.base.specs.Tells.{Tells, tells_yes, tells_no}
 use Rattle.base.specs.Choose.{never}
@@ -78,6 +79,10 @@ pub mapped_err : {T E D : Type 0} (Q : E → D → Type 0) (r : Result T E) {s :
     → MatchResult r (λ y. s ≡ Ok y) (λ e. IsErrAnd s (Q e)) → s ≡ Err d → (e : E) × (r ≡ Err e) × Q e d
 mapped_err Q (Ok y) d h q = absurd (cc)
 mapped_err Q (Err e) d h q = (e, refl, rw q at h)
+
+-- what a `?` returned of an error
+pub thrown : {T E : Type 0} {d : E} (r : Result T E) → IsErrAnd r (λ y. y ≡ d) → r ≡ Err d
+thrown r h = let p = err_from_is_err_and r h in rw p.2 at p.1
 
 abbrev pub edit_counts : ℕ → ℕ → ℕ → ℕ → Counts
 edit_counts total kept made up = record { total = total; kept = kept; made = made; given_up = up }

@@ -1,6 +1,7 @@
 -- The laws that the proofs of the calls cite: what the check of an image says of the grammar in the rows.
 use Rattle.std.specs.Prelude.{ℕ, zero, suc, ◌+◌, ◌≤◌, ◌<◌, ◌≡◌, refl, Some, None, Result, Ok, Err, List, length}
 use Rattle.std.proofs.Common.{ap, arith}
+use Rattle.std.specs.Result.{MatchResult, IsErrAnd}
 use Rattle.base.specs.Choose.{never}
 use Rattle.grammar.specs.Limits.{max_terminals, max_nonterminals, max_productions}
 use Rattle.grammar.specs.Grammar.{Grammar, WellFormed}
@@ -22,6 +23,7 @@ use Rattle.calls.specs.Order.{Call, Outcome}
 use Rattle.calls.specs.Checks.{given}
 use Rattle.calls.proofs.CheckLaws.{given_refused}
 use Rattle.calls.specs.CheckLaws.{Fit, Unfit, bad_image, useless, conflict}
+use Rattle.editing.specs.Editing.{mapped_ok}
 use Rattle.kindlesap.specs.declared.checks.Analysis.{Analysis}
 
 -- what replies 1 to 3 say of an image: its grammar in the rows, with its words and its cells, or the reason
@@ -36,13 +38,18 @@ length_productions : (rows : List ℕ) (k p : ℕ) → length (productions_from 
 length_productions rows zero p = refl
 length_productions rows (suc k) p = ap suc (length_productions rows k (p + 1))
 
-pub got_good : {image rows : List ℕ} {r : Result Head BadRecord} (h : Head) → Reads image r rows → r ≡ Ok h
+-- `map_err` kept what was read
+pub got_good : {image rows : List ℕ} (r : Result Head BadRecord) → Reads image r rows → (Q : BadRecord → Reason → Type 0)
+    {s : Result Head Reason} (h : Head) → MatchResult r (λ y. s ≡ Ok y) (λ e. IsErrAnd s (Q e)) → s ≡ Ok h
     → Image image (grammar_in rows h)
-got_good {image} h (reads_good G i) e =
-    let q : head_of G ≡ h = cc in
-    let j : Image image (grammar_in (rows_of G.productions) (head_of G)) = rw (rows_grammar G i.formed) i in
-    rw (← q) j
-got_good h (reads_bad b) e = never (cc)
+got_good {image} r u Q h k e = go u (mapped_ok Q r h k e)
+  where
+    go : {rows : List ℕ} {r : Result Head BadRecord} → Reads image r rows → r ≡ Ok h → Image image (grammar_in rows h)
+    go (reads_good G i) e =
+        let q : head_of G ≡ h = cc in
+        let j : Image image (grammar_in (rows_of G.productions) (head_of G)) = rw (rows_grammar G i.formed) i in
+        rw (← q) j
+    go (reads_bad b) e = never (cc)
 
 pub check_bad : {image rows : List ℕ} {a : Analysis} {r : Result Head BadRecord} (bad : BadRecord) → Reads image r rows → r ≡ Err bad
     → Checks image a (Err (reasons.BadGrammar bad.offset))

@@ -1,7 +1,8 @@
 -- The laws that the proof of parse cites: an accepted sentence's node list is its derivation tree in preorder, and is
 -- laid out so; what each check on the way says of the call.
-use Rattle.std.specs.Prelude.{ℕ, zero, suc, ◌+◌, ◌*◌, ◌/◌, ◌≤◌, ◌<◌, ◌≡◌, refl, Result, Err, length}
+use Rattle.std.specs.Prelude.{ℕ, zero, suc, ◌+◌, ◌*◌, ◌/◌, ◌≤◌, ◌<◌, ◌≡◌, refl, Result, Ok, Err, length}
 use Rattle.std.proofs.Common.{sym, ap, ◌∙◌, arith}
+use Rattle.std.specs.Result.{MatchResult, IsErrAnd}
 use mathlib.Core.List.{List, [], ◌∷◌, Memᴰ}
 use Rattle.grammar.specs.Each.{Each}
 use Rattle.grammar.specs.Grammar.{Grammar}
@@ -19,10 +20,11 @@ use Rattle.plain.specs.Tokens.{token_size, tokens_from, BadToken}
 use Rattle.plain.specs.Text.{parse_size}
 use Rattle.plain.specs.Machine.{Ground, Numbered, Done}
 use Rattle.plain.specs.Plain.{Parses}
-use Rattle.plain.specs.Outcome.{Counted, verdict_of}
+use Rattle.plain.specs.Outcome.{Counted, Told, Ran, verdict_of}
+use Rattle.plain.specs.declared.BadToken as bad
 use Rattle.plain.specs.declared.ParseError.{ParseError}
 use Rattle.plain.specs.declared.ParseError.TheVariants as errors
-use Rattle.editing.specs.Editing.{reason_of}
+use Rattle.editing.specs.Editing.{mapped_ok, reason_of}
 use Rattle.altering.specs.Outcome.{tokens_in}
 use Rattle.altering.specs.Treed.{arity_rows}
 use Rattle.replies.specs.declared.Reply.{Reply}
@@ -123,6 +125,16 @@ room_for S long room z l = omega (arith, z.long, l)
 -- good tokens fill their bytes
 pub counted : {t : ℕ} {b : List ℕ} {m : ℕ} → Counted t b m → Counted t b (length b / token_size)
 counted {b = b} {m = m} c = let q : m ≡ length b / token_size = omega (arith, c.long) in rw q at c
+
+-- `map_err` kept the tokens that were counted, or the nodes that were parsed
+pub tokens_good : {t : ℕ} {b : List ℕ} (r : Result ℕ bad.BadToken) → Told t b r → (Q : bad.BadToken → Reason → Type 0)
+    {s : Result ℕ Reason} (m : ℕ) → MatchResult r (λ y. s ≡ Ok y) (λ e. IsErrAnd s (Q e)) → s ≡ Ok m → Counted t b m
+tokens_good r h Q m k e = rw (mapped_ok Q r m k e) at h
+
+pub ran_done : {G : Grammar} {S : ℕ} {b : List ℕ} {m : ℕ} {w : List ℕ} (r : Result ℕ ParseError) → Ran G S b m w r
+    → (Q : ParseError → Reason → Type 0) {s : Result ℕ Reason} (o : ℕ) → MatchResult r (λ y. s ≡ Ok y) (λ e. IsErrAnd s (Q e)) → s ≡ Ok o
+    → Done G S b m o w
+ran_done r h Q o k e = rw (mapped_ok Q r o k e) at h
 
 -- ---- for each check: the outcome of the call where it refuses, and the rest of the call where it passes
 

@@ -125,14 +125,6 @@ tokens_part b (suc k) i f l =
 pub record Kinds (t : ℕ) (b : List ℕ) (i : ℕ) : Type 0 where
   pub is : (j : ℕ) → j < i → TerminalOf t (byte_at b (token_size * j))
 
-pub kinds_none : (t : ℕ) (b : List ℕ) → Kinds t b 0
-kinds_none t b = record { is = λ j l. absurd (omega arith) }
-
-pub kinds_more : (t : ℕ) (b : List ℕ) (i a : ℕ) → a ≡ byte_at b (token_size * i) → (a ≡ 0 → ⊥) → a ≤ t → Kinds t b i → Kinds t b (i + 1)
-kinds_more t b i a e n l h =
-    let w : TerminalOf t a = (omega (arith, n), l) in
-    record { is = λ j m. by_cases (ℕ_discrete j i) (λ q. rw q (rw e at w)) (λ q. h.is j (omega arith)) }
-
 each_kind : (t : ℕ) (b : List ℕ) (k i : ℕ) → Kinds t b (i + k) → Each (TerminalOf t) (kinds (tokens_from b k i))
 unfolding token_at
 each_kind t b zero i h = Each.nil

@@ -8,8 +8,5 @@ returns-then-is_tree c = short _ (search rules) (c.is_tree.ensures.yes (search r
 pub returns-then-work-need : goal.returns-then-work-need
 returns-then-work-need c = finds_none (c.is_tree.ensures.no (search rules))
 
-pub read_tree-requires : goal.read_tree-requires
-read_tree-requires c = let z = c.requires.0 in (z.some, z.few, z.long, search rules, c.requires.1)
-
 pub returns : goal.returns
 returns c = rw c.ok_or.ensures.value (walk_found _ c.read_tree.ensures (search rules) (search rules))

@@ -1,6 +1,6 @@
 use Rattle.std.proofs.Common.{◌≡◌}
 use Rattle.replies.specs.Reply.{no_counts}
-use Rattle.std.proofs.lemmas.Result.{err_from_is_err_and}
+use Rattle.editing.specs.Editing.{thrown}
 use Rattle.kindlesap.specs.GrammarChecks.{checked_ready, checked_fit}
 use Rattle.kindlesap.specs.PrepareChecks.{prepare_3, prepare_4, prepare_done}
 use borrow.Author.Rules.{rules}
@@ -8,8 +8,7 @@ use Rattle.kindlesap.proofs.call_prepare.prepare_checked.Goals as goal
 
 pub returns-in_err-head : goal.returns-in_err-head
 returns-in_err-head c =
-    let p = err_from_is_err_and c.from_residual.result c.from_residual.ensures.1 in
-    rw (p.1, p.2) (prepare_3 _ _ _ c.check.ensures c.in_err-head.was)
+    rw (thrown _ c.from_residual.ensures.1) (prepare_3 _ _ _ c.check.ensures c.in_err-head.was)
 
 pub returns-then-tables-ne-TABLES_SIZE : goal.returns-then-tables-ne-TABLES_SIZE
 returns-then-tables-ne-TABLES_SIZE c =

@@ -1,8 +1,8 @@
 use Rattle.std.proofs.Common.{◌≡◌}
 use Rattle.replies.specs.Reply.{no_counts}
-use Rattle.std.proofs.lemmas.Result.{err_from_is_err_and}
 use Rattle.grammar.specs.Rows.{start_small}
 use Rattle.altering.specs.Treed.{treed_few, treed_fits}
+use Rattle.editing.specs.Editing.{thrown}
 use Rattle.kindlesap.specs.GrammarChecks.{checked_fit}
 use Rattle.kindlesap.specs.AreaChecks.{area_sized, area_wrong}
 use Rattle.kindlesap.specs.ReadBackChecks.{tree_read, tree_wrong, read_3, read_5, read_none, read_11, read_done, tokens_fit}
@@ -11,13 +11,11 @@ use Rattle.kindlesap.proofs.call_read_back.read_back_checked.Goals as goal
 
 pub returns-in_err-head : goal.returns-in_err-head
 returns-in_err-head c =
-    let p = err_from_is_err_and c.from_residual.result c.from_residual.ensures.1 in
-    rw (p.1, p.2) (read_3 _ _ _ c.check.ensures c.in_err-head.was)
+    rw (thrown _ c.from_residual.ensures.1) (read_3 _ _ _ c.check.ensures c.in_err-head.was)
 
 pub returns-in_err-slots : goal.returns-in_err-slots
 returns-in_err-slots c =
-    let p = err_from_is_err_and c.from_residual-in_err-slots.result c.from_residual-in_err-slots.ensures.1 in
-    rw (p.1, p.2) (read_5 _ _ (checked_fit _ c.check.ensures c.in_ok-head.was) _ _ _ (area_wrong _ c.slots_of.ensures c.ok_or.ensures.value _ c.in_err-slots.was))
+    rw (thrown _ c.from_residual-in_err-slots.ensures.1) (read_5 _ _ (checked_fit _ c.check.ensures c.in_ok-head.was) _ _ _ (area_wrong _ c.slots_of.ensures c.ok_or.ensures.value _ c.in_err-slots.was))
 
 pub read_tree-requires : goal.read_tree-requires
 read_tree-requires c =
@@ -29,20 +27,13 @@ read_tree-requires c =
 pub returns-in_err-o : goal.returns-in_err-o
 returns-in_err-o c =
     let z = area_sized _ c.slots_of.ensures c.ok_or.ensures.value _ c.in_ok-slots.was in
-    let p = err_from_is_err_and c.from_residual-in_err-o.result c.from_residual-in_err-o.ensures.1 in
     let t = tree_wrong _ c.read_tree.ensures c.ok_or-2.ensures.value _ c.in_err-o.was in
-    rw (p.1, p.2, t.0) (read_none _ _ (checked_fit _ c.check.ensures c.in_ok-head.was) _ _ _ z t.1)
+    rw (thrown _ c.from_residual-in_err-o.ensures.1, t.0) (read_none _ _ (checked_fit _ c.check.ensures c.in_ok-head.was) _ _ _ z t.1)
 
 pub returns-then-output-need : goal.returns-then-output-need
 returns-then-output-need c =
     let h = tree_read _ c.read_tree.ensures c.ok_or-2.ensures.value _ c.in_ok-o.was in
     read_11 _ _ (checked_fit _ c.check.ensures c.in_ok-head.was) _ _ _ _ _ h _ c.get16-tokens.ensures.0 _ (search rules) (search rules)
-
-pub overflow_mul-slots : goal.overflow_mul-slots
-overflow_mul-slots c =
-    let z = area_sized _ c.slots_of.ensures c.ok_or.ensures.value _ c.in_ok-slots.was in
-    let u = z.few in
-    search rules
 
 pub give_out-requires : goal.give_out-requires
 give_out-requires c =
