@@ -27,20 +27,14 @@ const MATCH: usize = 6;
 fn old_node(entry: usize) -> Option<usize>
     ensures { entry_of result ≡ entry }
 {
-    if entry == 0 {
-        return None;
-    }
-    Some(entry - 1)
+    entry.checked_sub(1)
 }
 
 fn entry(v: Option<usize>) -> usize
     requires { entry_of v < 65536 }
     ensures { result ≡ entry_of v }
 {
-    match v {
-        None => 0,
-        Some(j) => j + 1,
-    }
+    v.map_or(0, |j| j + 1)
 }
 
 // A work area with room for the nodes and the notes of two trees of up to `slots` nodes.

@@ -20,9 +20,9 @@ use grammar::Head;
 use sets::SETS_SIZE;
 
 // The break points of one row.
-const ROW_SIZE: usize = grammar::MAX_NONTERMINALS * grammar::COLUMNS;
+const ROW_SIZE: usize = predictions::CELLS_SIZE;
 
-pub const PREDICTIONS_SIZE: usize = grammar::MAX_NONTERMINALS * grammar::COLUMNS;
+pub const PREDICTIONS_SIZE: usize = predictions::CELLS_SIZE;
 
 const BREAKS_SIZE: usize = grammar::MAX_NONTERMINALS * ROW_SIZE;
 

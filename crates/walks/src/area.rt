@@ -7,7 +7,7 @@ ghost use Rattle.walks.specs.Slots.{first_in, next_in};
 ghost use Rattle.walks.specs.Judging.{Looks, Hangs};
 
 // A used slot's mark as a two-byte number.
-const NODE_MARKS: usize = 0x444E;
+const NODE_MARKS: usize = trees::NODE_MARK as usize + 256 * (trees::NODE_MARK_END as usize);
 
 // The bytes of a header and of so many slots, each of them a byte.
 #[derive(Clone, Copy)]

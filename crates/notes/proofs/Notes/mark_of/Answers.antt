@@ -1,5 +1,4 @@
 use Rattle.notes.specs.Views.{mark_is}
-
 use borrow.Author.Rules.{rules}
 use Rattle.notes.proofs.Notes.mark_of.Goals as goal
 
