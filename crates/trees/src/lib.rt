@@ -58,7 +58,7 @@ pub const TAG_PLACE: usize = 10;
 pub const SPARE_PLACE: usize = 14;
 
 // A node: its slot, its symbol and production (0 for a leaf, as document 01's slots have it), and its tag (0 unless a leaf).
-#[derive(Clone, Copy, Debug, PartialEq, Eq)]
+#[derive(Clone, Copy, Debug, Default, PartialEq, Eq)]
 pub struct Node {
     pub slot: u16,
     pub symbol: u8,
@@ -71,12 +71,7 @@ pub fn node_at(nodes: &[u8], i: usize) -> Node
     ensures { result ≡ node_at nodes.now i }
 {
     if nodes.len() / NODE_SIZE < i {
-        return Node {
-            slot: 0,
-            symbol: 0,
-            production: 0,
-            tag: 0,
-        };
+        return Node::default();
     }
     let at = NODE_SIZE * i;
     Node {

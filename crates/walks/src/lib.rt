@@ -56,7 +56,7 @@ struct Siblings {
     symbols: usize,
 }
 
-// A node is a leaf, or its children must have the symbols of this body.
+// A node is a leaf, or its children must have the symbols of this body. No `Option`: `kin` answers an `Option` of it, and a leaf lacks no body.
 #[derive(Clone, Copy)]
 enum Kids {
     Leaf,
