@@ -8,7 +8,6 @@ use Rattle.grammar.specs.Forest.{Forest, size}
 use Rattle.tables.specs.Tables.{tables_size}
 use Rattle.trees.specs.Area.{max_slots, area_size, work_areas, slots, Area}
 use Rattle.replies.specs.Reply.{number_of, place_of, expected_of, counts_of}
-use Rattle.replies.specs.declared.Counts.{Counts}
 use Rattle.replies.specs.declared.Reason.{Reason}
 use Rattle.replies.specs.declared.Reply.{Reply}
 use Rattle.replies.specs.declared.Reply.TheVariants.{Accepted, Refused}
@@ -84,19 +83,6 @@ prints_one (accepted {tree = b} f l h a o) (accepted {tree = b'} f' m k a' o') =
     sym (text_accepted f h a o) ∙ y ∙ text_accepted f' k a' o'
 
 -- ---- as the code has it
-
-pub reply_few : (r : Reply) (c : Counts) → r ≡ Accepted c → (counts_of r).total ≤ max_slots → c.total ≤ max_slots
-reply_few r c q l = rw q at l
-
-pub reply_accepted : (r : Reply) (c : Counts) (b w : List ℕ) → r ≡ Accepted c → w ≡ area_text b c.total → w ≡ reply_text r b
-reply_accepted r c b w q h = rw q h
-
-pub reply_refused : (r : Reply) (x : Reason) (n p m : ℕ) (b w : List ℕ) → r ≡ Refused x → n ≡ number_of r → p ≡ place_of r → m ≡ expected_of r → w ≡ refused_text n p m → w ≡ reply_text r b
-reply_refused r x n p m b w q en ep em h =
-    let en' : n ≡ number_of (Refused x) = rw q at en in
-    let ep' : p ≡ place_of (Refused x) = rw q at ep in
-    let em' : m ≡ expected_of (Refused x) = rw q at em in
-    rw (q, ← en', ← ep', ← em') h
 
 pub parsed_of : {image tables₀ tables tokens tree₀ tree work₀ work : List ℕ} {told r : Reply} → image ≡ reference_image
     → tables₀ ≡ zeros tables_size → tree₀ ≡ zeros (area_size max_slots) → work₀ ≡ zeros (work_areas * area_size max_slots)
