@@ -1,8 +1,6 @@
 -- Meaning: sentences in bytes. Document 01: "A token is 5 bytes: kind 1..t, then a 32-bit tag that is carried and never interpreted. All numbers are little-endian."
 use Rattle.std.specs.Prelude.{ℕ, zero, suc, ◌+◌, ◌*◌, ◌/◌, ◌%◌, ◌≤◌, ◌<◌, ◌≡◌, refl, ◌⊎◌, List, [], ◌∷◌, ◌++◌, length, drop}
 use Rattle.std.proofs.Common.{sym, ap, ◌∙◌, inl, inr, append_assoc, append-nil, length-drop, drop_of_length-le, drop-cons, get_or-drop, arith}
-use Rattle.std.proofs.Math.Logic.{by_cases}
-use Rattle.std.proofs.Math.Decide.{ℕ_discrete}
 use Rattle.base.specs.Bytes.{byte_at, get32, Bytes, le_bytes}
 use Rattle.grammar.specs.Each.{Each, each_join}
 use Rattle.trees.specs.Area.{tag_space, Linked}
