@@ -108,7 +108,7 @@ pub data Cell (rows s : List ℕ) (k M a : ℕ) : ℕ → Type 0 where
 -- the lowest nonterminal in conflict among the first k
 pub data Low (rows s : List ℕ) (k : ℕ) : Option ℕ → Type 0 where
   none : ((M : ℕ) → Clash rows s k M → ⊥) → Low rows s k None
-  some : {M : ℕ} → Clash rows s k M → ((N : ℕ) → N < M → Clash rows s k N → ⊥) → Low rows s k (Some M)
+  some : {M : ℕ} → (M ≡ 0 → ⊥) → Clash rows s k M → ((N : ℕ) → N < M → Clash rows s k N → ⊥) → Low rows s k (Some M)
 
 -- left sides are nonterminals that have a row
 abbrev pub Rowed : List ℕ → ℕ → ℕ → Type 0
@@ -213,7 +213,7 @@ module _ (rows s : List ℕ) (t : ℕ) where
       where
         go : {l : Option ℕ} → Low rows s k l → Low rows s (k + 1) l
         go (none f) = none (λ M q. f M (quiet_old z q))
-        go (some q f) = some (wider q) (λ N l x. f N l (quiet_old z x))
+        go (some n q f) = some n (wider q) (λ N l x. f N l (quiet_old z x))
 
     -- one of m
     pub listed_loud : c ≡ true → Listed rows s t (k + 1) cells' (Some (min (unwrap_or low m) m))
@@ -222,13 +222,13 @@ module _ (rows s : List ℕ) (t : ℕ) where
         go : {l : Option ℕ} → Low rows s k l → Low rows s (k + 1) (Some (min (unwrap_or l m) m))
         go (none f) =
             let e : min m m ≡ m = omega arith in
-            rw e (some (loud_new z) (λ N i x. f N (old_or_m (λ y. omega arith) x)))
-        go (some {M = l} q f) =
+            rw e (some (λ (y : m ≡ 0). omega arith) (loud_new z) (λ N i x. f N (old_or_m (λ y. omega arith) x)))
+        go (some {M = l} n q f) =
             by_cases (dec_lt m l)
             (λ i. let e : min l m ≡ m = omega arith in
-            rw e (some (loud_new z) (λ N j x. f N (omega arith) (old_or_m (λ y. omega arith) x))))
+            rw e (some (λ (y : m ≡ 0). omega arith) (loud_new z) (λ N j x. f N (omega arith) (old_or_m (λ y. omega arith) x))))
             (λ i. let e : min l m ≡ l = omega arith in
-            rw e (some (wider q) (λ N j x. f N j (old_or_m (λ y. omega arith) x))))
+            rw e (some n (wider q) (λ N j x. f N j (old_or_m (λ y. omega arith) x))))
 
 pub listed_all : (rows s : List ℕ) (t k n : ℕ) (cells : List ℕ) (low : Option ℕ) → k ≡ n → Listed rows s t k cells low → Listed rows s t n cells low
 listed_all rows s t k n cells low e h = rw e at h

@@ -71,7 +71,7 @@ module _ (rows : List ℕ) (head : Head) (s : List ℕ) (known : Known (grammar_
 
     -- reply 3's place, or LL(1)
     pub low_lowest : {M : ℕ} → Low rows s head.count (Some M) → Lowest (Conflict (grammar_in rows head)) M
-    low_lowest (some c g) = record { holds = clash_conflict c; first = λ N l x. g N l (conflict_clash x) }
+    low_lowest (some n c g) = record { holds = clash_conflict c; first = λ N l x. g N l (conflict_clash x) }
 
     pub low_ll1 : Low rows s head.count None → LL1 (grammar_in rows head)
     low_ll1 (none g) M c = g M (conflict_clash c)
