@@ -1,8 +1,8 @@
 -- Runs of bytes: zeros, a copy, and whether all are 0.
-use Rattle.std.specs.Prelude.{ℕ, zero, suc, ◌+◌, ◌-◌, ◌<◌, ◌≤◌, ◌⊎◌, min, ◌≡◌, refl, List, [], ◌∷◌, ◌++◌, length, take, drop, get_or, replicate, fold, bit_or, eqb}
-use Rattle.std.proofs.Common.{sym, ap, ◌∙◌, inl, inr, length-append, length-drop, drop-drop, take_all, eqb-true, rules, arith}
+use Rattle.std.specs.Prelude.{ℕ, zero, suc, ◌+◌, ◌-◌, ◌<◌, ◌≤◌, ◌⊎◌, min, ◌≡◌, refl, List, [], ◌∷◌, ◌++◌, length, take, drop, get_or, set, replicate, fold, bit_or, eqb}
+use Rattle.std.proofs.Common.{sym, ap, ◌∙◌, inl, inr, add-one, length-append, length-drop, drop-drop, take_all, eqb-true, rules, arith}
 use Rattle.std.proofs.lemmas.List.{length-replicate, replicate-append-replicate}
-use Rattle.std.proofs.Math.Seq.{take-length, take-append_seam, drop-append-add, paste, paste-zero}
+use Rattle.std.proofs.Math.Seq.{take-length, take-append_seam, drop-append-add, paste, paste-suc, paste-zero}
 use Rattle.std.proofs.lemmas.Bool.{eqb-false}
 use Rattle.std.specs.Int.Bits.{or_add_and}
 use Rattle.std.proofs.lemmas.Nat.{and_le_l}
@@ -63,12 +63,34 @@ pub copy_none : (dst : List ℕ) (at : ℕ) (src : List ℕ) → length dst ≤ 
 unfolding copied
 copy_none dst at src l = let q : min (length src) (length dst - at) ≡ 0 = omega arith in rw q (paste-zero dst at src)
 
+-- a copy byte by byte
+pub copy_turn :
+    (dst₀ dst src : List ℕ) (at n i : ℕ) → at ≤ length dst₀ → n ≤ length src → n ≤ length dst₀ - at → i < n → dst ≡ paste dst₀ at src i →
+    set dst (at + i) (get_or src i 0) ≡ paste dst₀ at src (i + 1)
+copy_turn dst₀ dst src at n i g a b l e = rw (e, add-one i) (paste-suc dst₀ at src i 0 (omega arith) (omega arith))
+
+pub copy_end :
+    (dst₀ dst src : List ℕ) (at n i : ℕ) → n ≡ min (length src) (length dst₀ - at) → n ≤ i → i ≤ n → dst ≡ paste dst₀ at src i →
+    dst ≡ copied dst₀ at src
+unfolding copied
+copy_end dst₀ dst src at n i m l u e = let q : i ≡ min (length src) (length dst₀ - at) = omega arith in e ∙ rw q
+
+pub ruleset copying = (copy_none, copy_turn, copy_end)
+
 -- a copy that has room
 
 module _ (dst src : List ℕ) (at : ℕ) (l : at + length src ≤ length dst) where
   copied_is : copied dst at src ≡ take at dst ++ (src ++ drop (at + length src) dst)
   unfolding copied
   copied_is = let q : min (length src) (length dst - at) ≡ length src = omega arith in rw q (paste_all dst at src (length src) refl)
+
+  -- onto the beginning
+  pub copied_front : at ≡ 0 → (k : ℕ) → k ≡ length src → copied dst at src ≡ src ++ drop k dst
+  copied_front z k e = let q : 0 + length src ≡ k = omega arith in rw (copied_is, z, q) refl
+
+  -- all of dst
+  pub copied_whole : at ≡ 0 → length dst ≡ length src → copied dst at src ≡ src
+  copied_whole z e = rw copied_is (search (rules, common_steps))
 
   pub copied_long : length (copied dst at src) ≡ length dst
   copied_long = rw copied_is (search (rules, common_steps))

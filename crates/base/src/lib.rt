@@ -92,13 +92,16 @@ pub fn put_eight(b: &mut [u8], at: usize, v: usize)
     put::<8>(b, at, v);
 }
 
-// Writes `src` onto `dst` from `at` on, as much of it as fits: `copy_from_slice` wants what just fits.
+// Writes `src` onto `dst` from `at` on, as much of it as fits. Byte by byte: `copy_from_slice` of a length that is known only at run time has an archive
+// for C ask for `memmove`.
 pub fn copy(dst: &mut [u8], at: usize, src: &[u8])
     ensures { dst.new ≡ copied dst.old at src.now }
 {
     if at < dst.len() {
         let n = src.len().min(dst.len() - at);
-        dst[at..at + n].copy_from_slice(&src[..n]);
+        for i in 0..n {
+            dst[at + i] = src[i];
+        }
     }
 }
 

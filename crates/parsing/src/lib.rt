@@ -27,6 +27,6 @@ pub fn parse_lent(
     let r = m.min(slots + 1);
     let (_, rest) = work.split_at_mut(trees::NODE_SIZE * slots);
     let (text, _) = rest.split_at_mut(plain::TOKEN_SIZE * r);
-    text.copy_from_slice(&tokens[..plain::TOKEN_SIZE * r]);
+    base::copy(text, 0, &tokens[..plain::TOKEN_SIZE * r]);
     plain::parse(r, tables, rows, head, slots, work)
 }

@@ -13,6 +13,11 @@ pub record Added (v : List Token) (out out' : List ℕ) (at j : ℕ) : Type 0 wh
   pub is : out' ≡ take (token_size * at) out ++ token_bytes v ++ drop (token_size * j) out
   pub count : at + length v ≡ j
 
+pub added_none : (out : List ℕ) (at : ℕ) → Added [] out out at at
+added_none out at =
+    let q : take (token_size * at) out ++ [] ++ drop (token_size * at) out ≡ out = rw (append-nil (take (token_size * at) out)) (take-append-drop (token_size * at) out) in
+    record { is = sym q; count = omega arith }
+
 -- a copy of the tokens' bytes
 pub added_copy : (v : List Token) (out out' src : List ℕ) (at j : ℕ) → src ≡ token_bytes v → at + length v ≡ j → token_size * j ≤ length out → out' ≡ copied out (token_size * at) src → Added v out out' at j
 unfolding copied

@@ -10,8 +10,8 @@ use native.Mathlib.Omega.{arith}
 use Rattle.base.specs.Bytes.{byte_at}
 use Rattle.grammar.specs.Forest.{Token}
 use Rattle.trees.specs.Nodes.{leaves_of}
-use Rattle.trees.specs.Coded.{node_size, nodes_from}
-use Rattle.trees.specs.Listing.{nodes_kept}
+use Rattle.trees.specs.Coded.{node_size, node_at, nodes_from}
+use Rattle.trees.specs.Listing.{node_kept, nodes_kept}
 use Rattle.plain.specs.Tokens.{token_size, token_bytes, length_token_bytes}
 use Rattle.sentences.specs.Adding.{Added}
 use Rattle.sentences.specs.Leaves.{leaves_from, Gave}
@@ -21,6 +21,18 @@ use Rattle.sentences.specs.Forming.{NewSentence}
 pub record Fronted (a : ℕ) (w w' : List ℕ) : Type 0 where
   pub long : length w' ≡ length w
   pub each : (j : ℕ) → j < a → byte_at w' j ≡ byte_at w j
+
+pub fronted_then : {a : ℕ} {w w' w'' : List ℕ} → Fronted a w w' → Fronted a w' w'' → Fronted a w w''
+fronted_then h k = record { long = k.long ∙ h.long; each = λ j l. k.each j l ∙ h.each j l }
+
+-- the nodes are what they were
+module _ {a : ℕ} {w w' : List ℕ} (h : Fronted a w w') (n : ℕ) (l : node_size * n ≤ a) where
+  pub node_same : (i : ℕ) → i < n → node_at w' i ≡ node_at w i
+  node_same i m = node_kept w w' i (λ j x y. h.each j (omega arith))
+
+  pub leaves_same : (i : ℕ) → leaves_from w' n i ≡ leaves_from w n i
+  unfolding leaves_from
+  leaves_same i = ap leaves_of (nodes_kept w w' (n - i) i (λ j x y. h.each j (omega arith)))
 
 -- the nodes in front, and behind them the tokens as they are left
 module _ (w : List ℕ) {front : List ℕ} (text : ℕ) (behind : List ℕ) (e : front ≡ take text w) (l : text ≤ length w) where

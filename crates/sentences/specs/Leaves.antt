@@ -11,7 +11,7 @@ use Rattle.grammar.specs.Forest.{Token}
 use Rattle.trees.specs.Nodes.{Node, leaves_of}
 use Rattle.trees.specs.Coded.{node_at, nodes_from}
 use Rattle.plain.specs.Tokens.{token_size, token_bytes}
-use Rattle.sentences.specs.Adding.{Added, added_copy, added_more}
+use Rattle.sentences.specs.Adding.{Added, added_none, added_copy, added_more}
 
 -- the tokens of the leaves among n nodes, from node i on
 unfoldable pub leaves_from : List ℕ → ℕ → ℕ → List Token
@@ -54,6 +54,9 @@ pub record Gave (nodes : List ℕ) (n from : ℕ) (out : List ℕ) (at end i j :
   pub rest : leaves_from nodes n i ≡ drop (end - at) (leaves_from nodes n from)
 
 module _ (nodes : List ℕ) (n from : ℕ) (out : List ℕ) (at : ℕ) where
+  pub giving_none : Giving nodes n from out at from at out
+  giving_none = record { given = []; added = added_none out at; rest = refl }
+
   module _ (i j : ℕ) (out' : List ℕ) (h : Giving nodes n from out at i j out') where
     pub giving_inner : (e : Node) → i < n → e ≡ node_at nodes i → (e.production ≡ 0 → ⊥) → Giving nodes n from out at (i + 1) j out'
     giving_inner e l is z = record { given = h.given; added = h.added; rest = h.rest ∙ ap (λ (u : List Token). h.given ++ u) (leaves_inner nodes n i e l is z) }
@@ -71,13 +74,15 @@ module _ (nodes : List ℕ) (n from : ℕ) (out : List ℕ) (at : ℕ) where
         }
 
     -- or all of them
-    pub gave_all : (end : ℕ) → i ≡ n → j ≤ end → Gave nodes n from out at end n j out'
+    pub gave_all : (end : ℕ) → n ≤ i → j ≤ end → Gave nodes n from out at end i j out'
     gave_all end l m =
-        let z = leaves_none nodes n i (omega arith) in
+        let z = leaves_none nodes n i l in
         let c : leaves_from nodes n from ≡ h.given = h.rest ∙ ap (λ (u : List Token). h.given ++ u) z ∙ append-nil h.given in
         let f : length h.given ≤ end - at = omega (arith, h.added.count) in
-        let g : Gave nodes n from out at end i j out' = record { added = rw (c, take_all (end - at) h.given f) h.added; rest = z ∙ sym (rw c (drop_of_length-le h.given {i = end - at} f)) } in
-        rw l at g
+        record { added = rw (c, take_all (end - at) h.given f) h.added; rest = z ∙ sym (rw c (drop_of_length-le h.given {i = end - at} f)) }
+
+    pub gave_end : (end : ℕ) → i ≡ n → j ≤ end → Gave nodes n from out at end n j out'
+    gave_end end e m = rw e at (gave_all end (omega arith) m)
 
 -- ---- passed over
 
@@ -96,8 +101,8 @@ module _ (nodes : List ℕ) (n from k : ℕ) where
         let u : List Token = record { kind = e.symbol; tag = e.tag } ∷ leaves_from nodes n (i + 1) in
         record { is = ap (λ (x : ℕ). drop x u) q ∙ rw (leaves_leaf nodes n i e l is z) at h.is }
 
-    pub skipped_all : i ≡ n → Skipped nodes n from k n 0
-    skipped_all l =
-        let z = leaves_none nodes n i (omega arith) in
-        let s : Skipped nodes n from k i 0 = record { is = z ∙ sym (drop-nil left) ∙ rw z at h.is } in
-        rw l at s
+    pub skipped_all : n ≤ i → Skipped nodes n from k i 0
+    skipped_all l = let z = leaves_none nodes n i l in record { is = z ∙ sym (drop-nil left) ∙ rw z at h.is }
+
+    pub skipped_end : i ≡ n → Skipped nodes n from k n 0
+    skipped_end e = rw e at (skipped_all (omega arith))

@@ -83,7 +83,7 @@ fn put_tokens(text: &mut [u8], at: usize, tokens: &[u8], end: usize) -> usize
 {
     let from = plain::TOKEN_SIZE * at;
     let size = tokens.len().min(plain::TOKEN_SIZE * end - from);
-    text[from..from + size].copy_from_slice(&tokens[..size]);
+    base::copy(&mut text[from..from + size], 0, &tokens[..size]);
     at + size / plain::TOKEN_SIZE
 }
 
@@ -118,6 +118,6 @@ pub fn give_out(work: &mut [u8], n: usize, text: usize, tokens: usize, output: &
     let (nodes, room) = work.split_at_mut(text);
     let reached = give(&nodes[..trees::NODE_SIZE * n], 0, room, 0, tokens);
     let size = plain::TOKEN_SIZE * reached.token;
-    output[..size].copy_from_slice(&room[..size]);
+    base::copy(output, 0, &room[..size]);
     reached
 }

@@ -1,5 +1,5 @@
 use Rattle.std.proofs.Common.{rules, arith}
-use Rattle.sentences.specs.Leaves.{giving_inner, giving_leaf, gave_all}
+use Rattle.sentences.specs.Leaves.{giving_inner, giving_leaf, gave_end}
 use Rattle.sentences.proofs.give.Goals as goal
 use Rattle.sentences.proofs.give.Goals.{then-leaf-eq0, else-leaf-eq0}
 
@@ -11,4 +11,4 @@ loop-node-preserved c =
     ]
 
 pub returns : goal.returns
-returns c = (gave_all _ _ _ _ _ _ _ _ c.loop-node.invariant.1 _ (omega arith) (search rules), search rules, search rules)
+returns c = (gave_end _ _ _ _ _ _ _ _ c.loop-node.invariant.1 _ (omega arith) (search rules), search rules, search rules)

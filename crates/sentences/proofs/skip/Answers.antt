@@ -1,5 +1,5 @@
 use Rattle.std.proofs.Common.{rules, arith}
-use Rattle.sentences.specs.Leaves.{skipped_inner, skipped_leaf, skipped_all}
+use Rattle.sentences.specs.Leaves.{skipped_inner, skipped_leaf, skipped_end}
 use Rattle.sentences.proofs.skip.Goals as goal
 use Rattle.sentences.proofs.skip.Goals.{then-node_in-eq0, else-node_in-eq0}
 
@@ -11,4 +11,4 @@ loop-i-preserved c =
     ]
 
 pub returns : goal.returns
-returns c = (skipped_all _ _ _ _ _ _ c.loop-i.invariant (omega arith), search rules)
+returns c = (skipped_end _ _ _ _ _ _ c.loop-i.invariant (omega arith), search rules)
