@@ -3,7 +3,7 @@ use Rattle.std.specs.Prelude.{ℕ, ◌+◌, ◌/◌, ◌≡◌, Result, Ok, Err,
 use Rattle.grammar.specs.Rows.{grammar_in}
 use Rattle.plain.specs.Plain.{Parses}
 use Rattle.plain.specs.Tokens.{token_size, tokens_from}
-use Rattle.plain.specs.Machine.{Ground, At}
+use Rattle.plain.specs.Machine.{Ground, Going}
 use Rattle.plain.specs.Outcome.{verdict_of, Ran}
 use Rattle.plain.specs.declared.ParseError.{ParseError}
 use Rattle.plain.specs.declared.Lent.{Lent}
@@ -19,7 +19,7 @@ Grounded l = Ground l.rows.now l.head l.tables.now l.text.now (count_of l)
 
 -- the parse is there, with the nodes in n and the stack in s
 abbrev pub AtPlace : Lent → List ℕ → List ℕ → Place → Type 0
-AtPlace l n s q = At (grammar_in l.rows.now l.head) l.slots l.text.now (count_of l) n s q.top q.nodes q.token
+AtPlace l n s q = Going (grammar_in l.rows.now l.head) l.slots l.text.now (count_of l) n s q.top q.nodes q.token
 
 -- it goes on after one node more than o, or is over
 abbrev pub Turned : Lent → List ℕ → List ℕ → ℕ → Result Place ParseError → Type 0

@@ -109,9 +109,13 @@ pub record At (G : Grammar) (S : ℕ) (b : List ℕ) (m : ℕ) (n s : List ℕ) 
   pub symbols : Each (SymbolOf G.t G.n) (drop p s)
   -- "Parse puts nodes in slots 1, 2, .. in preorder"
   pub numbered : Numbered 1 (nodes_from n o 0)
+
+-- the parse goes on from there, with room for what is left
+pub record Going (G : Grammar) (S : ℕ) (b : List ℕ) (m : ℕ) (n s : List ℕ) (p o k : ℕ) : Type 0 where
   pub low : p ≤ length s
   pub room : o + (length s - p) ≤ S
   pub matched : k ≤ m
+  pub at : At G S b m n s p o k
 
 -- an accepted sentence: o nodes are its derivation, in preorder, in slots 1, 2, ..
 pub record Done (G : Grammar) (S : ℕ) (b : List ℕ) (m o : ℕ) (w : List ℕ) : Type 0 where
@@ -178,9 +182,9 @@ module _ {rows : List ℕ} {head : Head} {table b : List ℕ} {m : ℕ} (g : Gro
   small_ahead x = predictor_small g.prepared.formed.head.terminals.1 x
 
   module _ {S : ℕ} where
-    pub at_start : (n s : List ℕ) {p : ℕ} → 1 ≤ S → p + 1 ≡ length s → At G S b m n (set s p head.start) p 0 0
+    pub at_start : (n s : List ℕ) {p : ℕ} → p + 1 ≡ length s → At G S b m n (set s p head.start) p 0 0
     unfolding grammar_in
-    at_start n s {p} r long =
+    at_start n s {p} long =
         let s' : List ℕ = set s p head.start in
         let l : p + 1 ≡ length s' = long ∙ sym (length-set s p head.start) in
         let x : byte_at s' p ≡ head.start = get_or-set_same s p head.start 0 (omega arith) in
@@ -193,30 +197,32 @@ module _ {rows : List ℕ} {head : Head} {table b : List ℕ} {m : ℕ} (g : Gro
           parsing = rw (e, q, z) parsing_start;
           symbols = rw e (Each.cons y Each.nil);
           numbered = Numbered.nil;
-          low = omega arith;
-          room = omega arith;
-          matched = omega arith;
         }
 
-    module _ {n s : List ℕ} {p o k : ℕ} (lp : p < length s) (h : At G S b m n s p o k) {M a : ℕ} (eM : M ≡ byte_at s p) (ea : a ≡ byte_at b (token_size * k)) where
+    pub going_start : (n s : List ℕ) {p : ℕ} → 1 ≤ S → p + 1 ≡ length s → Going G S b m n (set s p head.start) p 0 0
+    going_start n s {p} r long =
+        let l = length-set s p head.start in
+        record { low = omega (arith, l); room = omega (arith, l); matched = omega arith; at = at_start n s long }
+
+    module _ {n s : List ℕ} {p o k : ℕ} (lp : p < length s) (h : Going G S b m n s p o k) {M a : ℕ} (eM : M ≡ byte_at s p) (ea : a ≡ byte_at b (token_size * k)) where
       opened : drop p s ≡ M ∷ drop (p + 1) s
       opened = let q : suc p ≡ p + 1 = omega arith in rw (q, ← eM) at (drop-cons s p 0 lp)
 
       top_symbol : SymbolOf head.t head.n M
       unfolding grammar_in
-      top_symbol = go (rw opened at h.symbols)
+      top_symbol = go (rw opened at h.at.symbols)
         where
           go : {x : ℕ} {xs : List ℕ} → Each (SymbolOf head.t head.n) (x ∷ xs) → SymbolOf head.t head.n x
           go (Each.cons y ys) = y
 
       others : Each (SymbolOf G.t G.n) (drop (p + 1) s)
-      others = go (rw opened at h.symbols)
+      others = go (rw opened at h.at.symbols)
         where
           go : {x : ℕ} {xs : List ℕ} → Each (SymbolOf G.t G.n) (x ∷ xs) → Each (SymbolOf G.t G.n) xs
           go (Each.cons y ys) = ys
 
       here : Parsing G S (tokens_from b m 0) (M ∷ drop (p + 1) s) (tokens_from b (m - k) k) (o + (length s - p)) k (nodes_from n o 0)
-      here = rw opened at h.parsing
+      here = rw opened at h.at.parsing
 
       seen : a ≡ ahead (tokens_from b (m - k) k)
       seen = ea ∙ ahead_at k h.matched
@@ -233,7 +239,7 @@ module _ {rows : List ℕ} {head : Head} {table b : List ℕ} {m : ℕ} (g : Gro
         no_predicted (by_follow r f v) = no_rule g.prepared terminal r
 
         -- it is the next token
-        pub at_leaf : M ≡ a → {n' : List ℕ} {tag : ℕ} → tag ≡ get32 b (token_size * k + 1) → Put n o (node_of (o + 1) M 0 tag) n' → At G S b m n' s (p + 1) (o + 1) (k + 1)
+        pub at_leaf : M ≡ a → {n' : List ℕ} {tag : ℕ} → tag ≡ get32 b (token_size * k + 1) → Put n o (node_of (o + 1) M 0 tag) n' → Going G S b m n' s (p + 1) (o + 1) (k + 1)
         unfolding token_at
         at_leaf e {n'} {tag} f u₀ =
             let u : Put n o (node_of (o + 1) M 0 (get32 b (token_size * k + 1))) n' = rw f at u₀ in
@@ -246,12 +252,14 @@ module _ {rows : List ℕ} {head : Head} {table b : List ℕ} {m : ℕ} (g : Gro
             parsing_match {G = G} (o + 1) M (token_at b k) terminal (e ∙ ea) x
             in
             record {
-              parsing = rw (put_last u, ← c) (rw z at y);
-              symbols = others;
-              numbered = rw (put_last u) (numbered_last (node_of (o + 1) M 0 (get32 b (token_size * k + 1))) (omega (arith, length_nodes n o 0)) h.numbered);
               low = omega arith;
               room = omega (arith, h.room);
               matched = omega arith;
+              at = record {
+                parsing = rw (put_last u, ← c) (rw z at y);
+                symbols = others;
+                numbered = rw (put_last u) (numbered_last (node_of (o + 1) M 0 (get32 b (token_size * k + 1))) (omega (arith, length_nodes n o 0)) h.at.numbered);
+              };
             }
 
         -- it is not
@@ -342,7 +350,7 @@ module _ {rows : List ℕ} {head : Head} {table b : List ℕ} {m : ℕ} (g : Gro
 
           -- or with it
           pub at_inner : {len : ℕ} → len ≡ length_at rows (q - 1) → o + (length s - p) + len ≤ S → {s' n' : List ℕ} {d : ℕ} → d + len ≡ p + 1 → Filled (symbol_at rows (q - 1)) d len s s'
-              → Put n o (node_of (o + 1) M q 0) n' → At G S b m n' s' d (o + 1) k
+              → Put n o (node_of (o + 1) M q 0) n' → Going G S b m n' s' d (o + 1) k
           at_inner {len} el l {s'} {n'} {d} ed u₀ v =
               let u : Filled (symbol_at rows (q - 1)) d (length_at rows (q - 1)) s s' = rw el at u₀ in
               let γ = body_at rows (q - 1) in
@@ -353,12 +361,14 @@ module _ {rows : List ℕ} {head : Head} {table b : List ℕ} {m : ℕ} (g : Gro
               parsing_expand {G = G} (o + 1) M q γ predicted row_of.1 (omega (arith, nz)) (omega (arith, lγ)) here
               in
               record {
-                parsing = rw (st, put_last v, ← c) y;
-                symbols = rw st (each_join (rule_allowed g.prepared.formed row_of.1).symbols others);
-                numbered = rw (put_last v) (numbered_last (node_of (o + 1) M q 0) (omega (arith, length_nodes n o 0)) h.numbered);
                 low = omega (arith, u.long);
                 room = omega (arith, u.long);
                 matched = h.matched;
+                at = record {
+                  parsing = rw (st, put_last v, ← c) y;
+                  symbols = rw st (each_join (rule_allowed g.prepared.formed row_of.1).symbols others);
+                  numbered = rw (put_last v) (numbered_last (node_of (o + 1) M q 0) (omega (arith, length_nodes n o 0)) h.at.numbered);
+                };
               }
 
     -- ---- no symbol left
@@ -373,18 +383,20 @@ module _ {rows : List ℕ} {head : Head} {table b : List ℕ} {m : ℕ} (g : Gro
           let q = parsing_end (rw z at over) in
           record { parses = rw (length_nodes n o 0) at q.0; lists = q.1; leaves = q.2; numbered = h.numbered }
 
-      pub at_rest : (k ≡ m → ⊥) → Parses G S (tokens_from b m 0) (syntax k 1)
+      pub at_rest : k < m → Parses G S (tokens_from b m 0) (syntax k 1)
       unfolding token_at
-      at_rest e =
-          let l : k < m = omega (arith, h.matched) in
+      at_rest l =
           let z : m - k ≡ suc (m - (k + 1)) = omega arith in
           let r = rw z at over in
-          r.run (syntax k 1) (stuck (λ x. more l x refl refl) (record { small = omega arith; all = λ c x. rw (last x refl) (one_has 0); only = λ c x. rw (has_one 0 c x) end }))
+          r.run (syntax k 1) (stuck (λ x. more x refl refl) (record { small = omega arith; all = λ c x. rw (last x refl) (one_has 0); only = λ c x. rw (has_one 0 c x) end }))
         where
           last : {xs : List ℕ} {c : ℕ} → Expects G xs c → xs ≡ [] → c ≡ 0
           last (prediction x) e = never (cc)
           last (itself y) e = never (cc)
           last end e = refl
 
-          more : {xs : List ℕ} {c : ℕ} → k < m → Expects G xs c → xs ≡ [] → c ≡ byte_at b (token_size * k) → ⊥
-          more l x e f = omega (arith, last x e, f, (g.kinds.is k l).0)
+          more : {xs : List ℕ} {c : ℕ} → Expects G xs c → xs ≡ [] → c ≡ byte_at b (token_size * k) → ⊥
+          more x e f = omega (arith, last x e, f, (g.kinds.is k l).0)
+
+    pub going_rest : {n s : List ℕ} {p o k : ℕ} → length s ≤ p → Going G S b m n s p o k → (k ≡ m → ⊥) → Parses G S (tokens_from b m 0) (syntax k 1)
+    going_rest lp h e = at_rest lp h.at (omega (arith, h.matched))

@@ -1,6 +1,8 @@
 -- Meaning: sentences in bytes. Document 01: "A token is 5 bytes: kind 1..t, then a 32-bit tag that is carried and never interpreted. All numbers are little-endian."
 use Rattle.std.specs.Prelude.{ℕ, zero, suc, ◌+◌, ◌*◌, ◌/◌, ◌%◌, ◌≤◌, ◌<◌, ◌≡◌, refl, ◌⊎◌, List, [], ◌∷◌, ◌++◌, length, drop}
 use Rattle.std.proofs.Common.{sym, ap, ◌∙◌, inl, inr, append_assoc, append-nil, length-drop, drop_of_length-le, drop-cons, get_or-drop, arith}
+use Rattle.std.proofs.Math.Logic.{by_cases}
+use Rattle.std.proofs.Math.Decide.{ℕ_discrete}
 use Rattle.base.specs.Bytes.{byte_at, get32, Bytes, le_bytes}
 use Rattle.grammar.specs.Each.{Each, each_join}
 use Rattle.trees.specs.Area.{tag_space, Linked}
@@ -122,6 +124,14 @@ tokens_part b (suc k) i f l =
 -- every kind of the first i tokens is a terminal
 pub record Kinds (t : ℕ) (b : List ℕ) (i : ℕ) : Type 0 where
   pub is : (j : ℕ) → j < i → TerminalOf t (byte_at b (token_size * j))
+
+pub kinds_none : (t : ℕ) (b : List ℕ) → Kinds t b 0
+kinds_none t b = record { is = λ j l. absurd (omega arith) }
+
+pub kinds_more : (t : ℕ) (b : List ℕ) (i a : ℕ) → a ≡ byte_at b (token_size * i) → (a ≡ 0 → ⊥) → a ≤ t → Kinds t b i → Kinds t b (i + 1)
+kinds_more t b i a e n l h =
+    let w : TerminalOf t a = (omega (arith, n), l) in
+    record { is = λ j m. by_cases (ℕ_discrete j i) (λ q. rw q (rw e at w)) (λ q. h.is j (omega arith)) }
 
 each_kind : (t : ℕ) (b : List ℕ) (k i : ℕ) → Kinds t b (i + k) → Each (TerminalOf t) (kinds (tokens_from b k i))
 unfolding token_at
