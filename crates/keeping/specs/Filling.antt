@@ -80,6 +80,18 @@ pub record Giving (w ms : List ℕ) (base k : ℕ) (w' : List ℕ) (i s : ℕ) :
   pub before : (j : ℕ) → j < node_size * base → byte_at w' j ≡ byte_at w j
   pub behind : (j : ℕ) → node_size * (base + i) ≤ j → byte_at w' j ≡ byte_at w j
 
+pub giving_none : (w ms : List ℕ) (base k : ℕ) → Giving w ms base k w 0 1
+giving_none w ms base k =
+    let q : k - 0 ≡ k = omega arith in
+    record {
+      long = refl;
+      some = omega arith;
+      given = λ ss g. rw q at g;
+      fields = λ x l. absurd (omega arith);
+      before = λ j l. refl;
+      behind = λ j l. refl;
+    }
+
 -- what the i-th node holds is read from the old tree's nodes
 pub giving_holds : {w ms w' : List ℕ} {base k i s : ℕ} (r : Option ℕ) → Giving w ms base k w' i s → get_or ms i 0 ≤ base → HoldsSlot (slot_by w' (get_or ms i 0)) r → HoldsSlot (slot_by w (get_or ms i 0)) r
 giving_holds {w} {ms} {w'} {base} {i = i} r g l e = rw (slot_kept w w' base (get_or ms i 0) g.before l) at e

@@ -47,6 +47,16 @@ marked_some m hs (suc h) o l k =
         get_or-set_other m (suc h) s 1 0 (λ i. x (Memᴰ.append_right (held_of hs) (Memᴰ.head i)))
         ∙ k.free s (λ o. x (Memᴰ.append_left (suc h ∷ []) o))
 
+-- with a mark at h, if that is a slot
+unfoldable pub mark : List ℕ → ℕ → List ℕ
+mark m zero = m
+mark m (suc s) = set m (suc s) 1
+
+marked_more : (m hs : List ℕ) (h : ℕ) → h < length m → Marked m hs → Marked (mark m h) (hs ++ (h ∷ []))
+unfolding mark
+marked_more m hs zero l k = marked_none m hs k
+marked_more m hs (suc h) l k = marked_some m hs (suc h) (omega arith) l k
+
 -- ---- the first k of the new nodes
 
 -- the slots that they hold are marked

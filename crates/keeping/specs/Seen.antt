@@ -27,8 +27,12 @@ module _ {u v : Notes} {ms ks : List ℕ} (h : Seen u v (nodes_of v) ms ks) wher
   pub held_seen : (i : ℕ) (r : Option ℕ) → HoldsSlot (slot_by (nodes_of v) (get_or (matches_of v) i 0)) r → HoldsSlot (slot_by (nodes_of v) (get_or ms i 0)) r
   held_seen i r e = rw h.matches at e
 
-  pub got_then : (a : ℕ) {s s' : ℕ} {r : Option ℕ} {n n' : List ℕ} → Got (marks_of v) v.slots s r n (v.slots + a) n' s' → Got ks u.slots s r n (u.slots + a) n' s'
-  got_then a g = rw (h.marks, h.same.slots) at g
+  pub got_then : {s a s' : ℕ} {r : Option ℕ} {n n' : List ℕ} → Got (marks_of v) v.slots s r n a n' s' → Got ks u.slots s r n a n' s'
+  got_then g = rw (h.marks, h.same.slots) at g
+
+  -- of a node of the new tree
+  pub got_new_then : (a : ℕ) {s s' : ℕ} {r : Option ℕ} {n n' : List ℕ} → Got (marks_of v) v.slots s r n (v.slots + a) n' s' → Got ks u.slots s r n (u.slots + a) n' s'
+  got_new_then a g = rw h.same.slots at (got_then g)
 
   pub seen_given : {v' : Notes} → Seen v v' (nodes_of v') (matches_of v) (marks_of v) → Seen u v' (nodes_of v') ms ks
   seen_given e = record { same = same_then h.same e.same; nodes = refl; matches = e.matches ∙ h.matches; marks = e.marks ∙ h.marks }

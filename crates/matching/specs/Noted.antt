@@ -37,6 +37,10 @@ module _ {u v : Notes} {ns es ws ss ms : List ℕ} (h : Viewed u v ns es ws ss m
   pub matches_on : {v' : Notes} {ms' : List ℕ} → Viewed v v' (nodes_of v) (ends_of v) (widths_of v) (starts_of v) ms' → Viewed u v' ns es ws ss (matches_of v')
   matches_on g = record { same = same_then h.same g.same; nodes = g.nodes ∙ h.nodes; ends = g.ends ∙ h.ends; widths = g.widths ∙ h.widths; starts = g.starts ∙ h.starts; matches = refl }
 
+  -- of the lists, so of the work area
+  pub built_in : {rows : List ℕ} {n base : ℕ} → Built rows ns n base → Built rows (nodes_of v) n base
+  built_in g = rw h.nodes g
+
   pub started_in : {n T : ℕ} → Started ns n T ss → Started (nodes_of v) n T (starts_of v)
   started_in g = rw (h.nodes, h.starts) g
 
@@ -46,8 +50,17 @@ module _ {u v : Notes} {ns es ws ss ms : List ℕ} (h : Viewed u v ns es ws ss m
   pub rising_new_in : (k : ℕ) → Rising es u.slots (u.slots + k) → Rising (ends_of v) v.slots (v.slots + k)
   rising_new_in k g = rw (h.ends, h.same.slots) g
 
-  pub leaved_in : (k : ℕ) → Leaved ns es ws u.slots (u.slots + k) → Leaved (nodes_of v) (ends_of v) (widths_of v) v.slots (v.slots + k)
-  leaved_in k g = rw (h.nodes, h.ends, h.widths, h.same.slots) g
+  pub leaved_in : {lo hi : ℕ} → Leaved ns es ws lo hi → Leaved (nodes_of v) (ends_of v) (widths_of v) lo hi
+  leaved_in g = rw (h.nodes, h.ends, h.widths) g
+
+  pub leaved_new_in : (k : ℕ) → Leaved ns es ws u.slots (u.slots + k) → Leaved (nodes_of v) (ends_of v) (widths_of v) v.slots (v.slots + k)
+  leaved_new_in k g = leaved_in (rw h.same.slots g)
+
+  pub width_in : (x : ℕ) {r : ℕ} → r ≡ get_or ws x 0 → r ≡ get_or (widths_of v) x 0
+  width_in x g = rw h.widths g
+
+  pub handed_in : {c d base : ℕ} {ms₀ ms₁ : List ℕ} → Handed ws c d base ms₀ ms₁ → Handed (widths_of v) c d base ms₀ ms₁
+  handed_in g = rw h.widths g
 
   -- of the work area, so of the lists
   pub production_out : (x p : ℕ) → p ≡ (node_at (nodes_of v) x).production → p ≡ (node_at ns x).production
@@ -66,25 +79,46 @@ module _ {u v : Notes} {ns es ws ss ms : List ℕ} (h : Viewed u v ns es ws ss m
   pub started_out : {n T : ℕ} {starts : List ℕ} → Started (nodes_of v) n T starts → Started ns n T starts
   started_out g = rw h.nodes at g
 
-  pub handed_out : {c d : ℕ} {ms₀ ms₁ : List ℕ} → Handed (widths_of v) c d v.slots ms₀ ms₁ → Handed ws c d u.slots ms₀ ms₁
-  handed_out g = rw (h.widths, h.same.slots) at g
+  pub handed_out : {c d base : ℕ} {ms₀ ms₁ : List ℕ} → Handed (widths_of v) c d base ms₀ ms₁ → Handed ws c d base ms₀ ms₁
+  handed_out g = rw h.widths at g
 
-  pub handed_all_out : {i j : ℕ} {ms₀ ms₁ : List ℕ} → HandedAll (ends_of v) (widths_of v) v.slots i j ms₀ ms₁ → HandedAll es ws u.slots i j ms₀ ms₁
-  handed_all_out g = rw (h.ends, h.widths, h.same.slots) at g
+  pub handed_all_out : {base i j : ℕ} {ms₀ ms₁ : List ℕ} → HandedAll (ends_of v) (widths_of v) base i j ms₀ ms₁ → HandedAll es ws base i j ms₀ ms₁
+  handed_all_out g = rw (h.ends, h.widths) at g
 
-  pub stepped_out : {i t i' t' : ℕ} → Stepped (nodes_of v) v.slots i t i' t' → Stepped ns u.slots i t i' t'
-  stepped_out g = rw (h.nodes, h.same.slots) at g
+  pub stepped_out : {base i t i' t' : ℕ} → Stepped (nodes_of v) base i t i' t' → Stepped ns base i t i' t'
+  stepped_out g = rw h.nodes at g
 
-  pub reach_out : {place inserted i t stop : ℕ} → Reach (ends_of v) (widths_of v) v.slots place inserted i t stop → Reach es ws u.slots place inserted i t stop
-  reach_out g = rw (h.ends, h.widths, h.same.slots) at g
+  pub reach_out : {base place inserted i t stop : ℕ} → Reach (ends_of v) (widths_of v) base place inserted i t stop → Reach es ws base place inserted i t stop
+  reach_out g = rw (h.ends, h.widths) at g
 
-  pub turned_out : {n T place removed inserted i t i' t' : ℕ} {ms₀ ms₁ : List ℕ} → Turned (nodes_of v) (ends_of v) (widths_of v) n T v.slots place removed inserted i t ms₀ i' t' ms₁
+  pub turned_out : {n T base place removed inserted i t i' t' : ℕ} {ms₀ ms₁ : List ℕ} → Turned (nodes_of v) (ends_of v) (widths_of v) n T base place removed inserted i t ms₀ i' t' ms₁
+      → Turned ns es ws n T base place removed inserted i t ms₀ i' t' ms₁
+  turned_out g = rw (h.nodes, h.ends, h.widths) at g
+
+  pub matches_out : {n base k T place removed inserted : ℕ} {ms₁ : List ℕ} → Matches (nodes_of v) n base k (ends_of v) (widths_of v) T (starts_of v) place removed inserted ms₁
+      → Matches ns n base k es ws T ss place removed inserted ms₁
+  matches_out g = rw (h.nodes, h.ends, h.widths, h.starts) at g
+
+  -- the same of the new tree, whose nodes stand from node `slots` on
+  pub handed_new_out : {c d : ℕ} {ms₀ ms₁ : List ℕ} → Handed (widths_of v) c d v.slots ms₀ ms₁ → Handed ws c d u.slots ms₀ ms₁
+  handed_new_out g = rw h.same.slots at (handed_out g)
+
+  pub handed_all_new_out : {i j : ℕ} {ms₀ ms₁ : List ℕ} → HandedAll (ends_of v) (widths_of v) v.slots i j ms₀ ms₁ → HandedAll es ws u.slots i j ms₀ ms₁
+  handed_all_new_out g = rw h.same.slots at (handed_all_out g)
+
+  pub stepped_new_out : {i t i' t' : ℕ} → Stepped (nodes_of v) v.slots i t i' t' → Stepped ns u.slots i t i' t'
+  stepped_new_out g = rw h.same.slots at (stepped_out g)
+
+  pub reach_new_out : {place inserted i t stop : ℕ} → Reach (ends_of v) (widths_of v) v.slots place inserted i t stop → Reach es ws u.slots place inserted i t stop
+  reach_new_out g = rw h.same.slots at (reach_out g)
+
+  pub turned_new_out : {n T place removed inserted i t i' t' : ℕ} {ms₀ ms₁ : List ℕ} → Turned (nodes_of v) (ends_of v) (widths_of v) n T v.slots place removed inserted i t ms₀ i' t' ms₁
       → Turned ns es ws n T u.slots place removed inserted i t ms₀ i' t' ms₁
-  turned_out g = rw (h.nodes, h.ends, h.widths, h.same.slots) at g
+  turned_new_out g = rw h.same.slots at (turned_out g)
 
-  pub matches_out : {n k T place removed inserted : ℕ} {ms₁ : List ℕ} → Matches (nodes_of v) n v.slots k (ends_of v) (widths_of v) T (starts_of v) place removed inserted ms₁
+  pub matches_new_out : {n k T place removed inserted : ℕ} {ms₁ : List ℕ} → Matches (nodes_of v) n v.slots k (ends_of v) (widths_of v) T (starts_of v) place removed inserted ms₁
       → Matches ns n u.slots k es ws T ss place removed inserted ms₁
-  matches_out g = rw (h.nodes, h.ends, h.widths, h.starts, h.same.slots) at g
+  matches_new_out g = rw h.same.slots at (matches_out g)
 
 -- the work area that was lent
 module _ {v : Notes} {S : ℕ} {w : List ℕ} (e : Lent v S w) where

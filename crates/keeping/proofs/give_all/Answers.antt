@@ -1,6 +1,6 @@
 use Rattle.std.proofs.Common.{◌<◌, ◌≡◌}
 use Rattle.keeping.specs.Filling.{giving_holds, giving_more, giving_all}
-use Rattle.keeping.specs.Seen.{held_seen, got_then, seen_given}
+use Rattle.keeping.specs.Seen.{held_seen, got_new_then, seen_given}
 use borrow.Author.Rules.{rules}
 use Rattle.keeping.proofs.give_all.Goals as goal
 
@@ -12,7 +12,7 @@ loop-i-preserved c =
     record {
       low = search rules;
       seen = seen_given u.seen c.give_one-s.ensures.1;
-      giving = giving_more c.requires.3 c.requires.2 l e (got_then u.seen _ c.give_one-s.ensures.0) u.giving;
+      giving = giving_more c.requires.3 c.requires.2 l e (got_new_then u.seen _ c.give_one-s.ensures.0) u.giving;
     }
 
 pub returns : goal.returns

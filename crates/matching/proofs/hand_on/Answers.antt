@@ -1,6 +1,6 @@
 use Rattle.notes.specs.Views.{length_field}
 use Rattle.matching.specs.Handing.{rise_low, few_handed, handing_next}
-use Rattle.matching.specs.Noted.{matches_on, end_out, handed_out}
+use Rattle.matching.specs.Noted.{matches_on, end_out, handed_new_out}
 use borrow.Author.Rules.{rules}
 use Rattle.matching.proofs.hand_on.Goals as goal
 
@@ -12,7 +12,7 @@ loop-c-preserved c =
     let y = end_out v _ _ c.end_of-d.ensures.0 in
     let p = rise_low c.requires.3 (search rules) (search rules) x in
     let q = rise_low c.requires.2 (search rules) (search rules) y in
-    let h = handed_out u.viewed c.hand.ensures.0 in
+    let h = handed_new_out u.viewed c.hand.ensures.0 in
     record {
       last = search rules;
       stop = search rules;
