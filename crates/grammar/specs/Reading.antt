@@ -11,7 +11,7 @@ use Rattle.grammar.specs.Each.{Each, each_join, each_parts, each_head, each_at, 
 use Rattle.grammar.specs.Grammar.{Production, Grammar, AllowedHead, Allowed}
 use Rattle.grammar.specs.Image.{head_bytes, production_bytes, productions_bytes, image_of, Begins, HeadFirst, Bad, bad_production}
 use Rattle.grammar.specs.declared.Head.{Head}
-use Rattle.grammar.specs.Rows.{row_size, rows_size, rows_of, rows_none, rows_more}
+use Rattle.grammar.specs.Rows.{row_size, rows_size, rows_of, length_rows_of, rows_none, rows_more}
 
 -- ---- lists by their first bytes
 
@@ -61,6 +61,9 @@ module _ (b : List ℕ) where
             ∙ ap₂ (λ (x y : ℕ). record_mark ∷ head_mark ∷ x ∷ y ∷ get_or b 4 0 ∷ drop 5 b) (sym et) (sym en)
             ∙ ap (λ (x : ℕ). record_mark ∷ head_mark ∷ t ∷ n ∷ x ∷ drop 5 b) (sym es);
       }
+
+  pub headed_long : (t n s : ℕ) → Headed b t n s → head_size ≤ length b
+  headed_long t n s h = omega (arith, ap length h.is)
 
 -- the head that the bytes begin with, and no production yet; or none
 pub data HeadRead (bytes : List ℕ) : Option Head → Type 0 where
@@ -208,6 +211,12 @@ reading_start bytes rows t n s count h e z =
 module _ (bytes : List ℕ) (t n s : ℕ) (rest rows : List ℕ) (count offset : ℕ) (r : Reading bytes t n s rest rows count offset) where
   abbrev G : Grammar
   G = read_so_far t n s r.got
+
+  pub reading_fits : offset + length rest ≡ length bytes
+  reading_fits = sym (ap length r.begins.is ∙ length-append (image_of G) rest ∙ ap (λ (k : ℕ). k + length rest) (sym r.passed))
+
+  pub reading_rows : length rows ≡ rows_size
+  reading_rows = ap length r.laid ∙ length_rows_of r.got r.begins.formed.each r.begins.formed.few
 
   some_left : (length rest ≡ 0 → ⊥) → rest ≡ [] → ⊥
   some_left k e = k (ap length e)

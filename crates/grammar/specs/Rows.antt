@@ -91,6 +91,11 @@ pub length_rows : {t n : ℕ} (Ps : List Production) → Each (Allowed t n) Ps �
 length_rows [] e = refl
 length_rows (P ∷ Ps) (Each.cons a e) = omega (arith, length-append (row_of P) (rows_bytes Ps), length_row P a.short, length_rows Ps e)
 
+pub length_rows_of : {t n : ℕ} (Ps : List Production) → Each (Allowed t n) Ps → length Ps ≤ max_productions → length (rows_of Ps) ≡ rows_size
+unfolding rows_of
+length_rows_of Ps e l =
+    omega (arith, length-append (rows_bytes Ps) (zeros (rows_size - length Ps * row_size)), length_rows Ps e, length_zeros (rows_size - length Ps * row_size))
+
 rows_append : (Ps Qs : List Production) → rows_bytes (Ps ++ Qs) ≡ rows_bytes Ps ++ rows_bytes Qs
 rows_append [] Qs = refl
 rows_append (P ∷ Ps) Qs = ap (λ (l : List ℕ). row_of P ++ l) (rows_append Ps Qs) ∙ sym (append_assoc (row_of P) (rows_bytes Ps) (rows_bytes Qs))

@@ -1,14 +1,14 @@
 -- What is laid down are the tables of the grammar in the rows.
 use Prim.Native.Nat.{ℕ, ◌+◌, ◌*◌, ◌/◌, ◌%◌, ◌≤◌, ◌<◌}
-use Rattle.std.specs.Prelude.{◌≡◌, Bool, List, drop, None}
-use Rattle.std.proofs.Math.Path.{sym}
+use Rattle.std.specs.Prelude.{◌≡◌, Bool, false, List, drop, None}
+use Rattle.std.proofs.Math.Path.{refl, sym}
 use Rattle.std.proofs.Common.{◌∙◌}
 use Rattle.std.proofs.Math.Logic.{by_cases}
 use Rattle.std.proofs.Math.Decide.{dec_lt}
-use Rattle.std.proofs.Math.ListN.{get_or, length-drop}
+use Rattle.std.proofs.Math.ListN.{length, get_or, length-drop}
 use Rattle.std.proofs.Math.Seq.{get_or-drop}
 use native.Mathlib.Omega.{arith}
-use Rattle.base.specs.Tells.{Tells}
+use Rattle.base.specs.Tells.{Tells, tells_no}
 use Rattle.grammar.specs.Limits.{max_terminals, max_nonterminals, columns}
 use Rattle.grammar.specs.Grammar.{Grammar}
 use Rattle.grammar.specs.Prediction.{Prepared, Break, not_first}
@@ -17,13 +17,13 @@ use Rattle.grammar.specs.declared.Head.{Head}
 use Rattle.sets.specs.Known.{Known}
 use Rattle.predictions.specs.Listing.{Cell, empty, full, Listed}
 use Rattle.predictions.specs.Verdict.{predicts_hit, hit_predicts}
-use Rattle.tables.specs.Tables.{predictions_size, break_place, prediction_place, Prediction, some, none, Tables}
+use Rattle.tables.specs.Tables.{predictions_size, tables_size, break_place, prediction_place, Prediction, some, none, Tables}
 use Rattle.tables.specs.Cells.{step_of, mask_of, entry_of, implied_of}
 use Rattle.tables.specs.Points.{point}
 use Rattle.tables.specs.Implied.{told_break, right_told}
 use Rattle.tables.specs.One.{prediction_one, break_one}
 use Rattle.tables.specs.Grid.{Grid}
-use Rattle.tables.specs.Writing.{Laid}
+use Rattle.tables.specs.Writing.{Laid, mask_cell, entry_cell}
 
 -- what the writer needs to know
 pub record Ready (rows : List ℕ) (head : Head) (s cells : List ℕ) : Type 0 where
@@ -87,17 +87,12 @@ module _ (rows : List ℕ) (head : Head) (s cells : List ℕ) (ready : Ready row
   module _ (st₀ steps : List ℕ) (fs : Grid 0 (step_of rows s cells head.t) (head.t + 1) head.n head.n 0 st₀ steps) where
     module _ (m₀ masks : List ℕ) (fm : Grid 0 (mask_of steps head.t) (head.t + 1) head.n head.n 0 m₀ masks) where
       break_at : (R Q a : ℕ) → R < head.n → Q < head.n → a < head.t + 1 → Break G (head.t + 1 + R) (head.t + 1 + Q) a (entry_of s steps masks head.t R (Q * columns + a))
-      unfolding entry_of mask_of
       break_at R Q a x y l =
           let few = ready_few in
-          let i : ℕ = Q * columns + a in
-          let zq : i / columns ≡ Q = omega (arith, few.0) in
-          let za : i % columns ≡ a = omega (arith, few.0) in
-          let e : get_or masks i 0 ≡ mask_of steps head.t i = fm.done Q a y l in
-          let p = point rows head s ready.known ready.prepared cells ready.listed steps fs.done
-          (head.t + 1 + R) (head.t + 1 + i / columns) (i % columns) (get_or masks i 0) (omega (arith, few.0, few.1)) (omega (arith, few.0, few.1)) (omega arith) e
-          in
-          rw (zq, za) (rw (zq, za) at p)
+          let c : a < columns = omega (arith, few.0) in
+          let e = fm.done Q a y l ∙ sym (mask_cell steps head.t Q a _ c refl) in
+          rw (← entry_cell s steps masks head.t R Q a _ c refl)
+          (point rows head s ready.known ready.prepared cells ready.listed steps fs.done (head.t + 1 + R) (head.t + 1 + Q) a (get_or masks (Q * columns + a) 0) (omega (arith, few.0, few.1)) (omega (arith, few.0, few.1)) c e)
 
       pub tables_from : (w : List ℕ) → Laid cells (entry_of s steps masks head.t) head.n (head.t + 1) w → Tables (grammar_in rows head) w
       tables_from w laid = laid_tables (entry_of s steps masks head.t) w break_at laid
@@ -124,3 +119,7 @@ module _ (rows : List ℕ) (head : Head) (s cells : List ℕ) (ready : Ready row
             yes = λ e. laid_tables (implied_of s steps head.t b) w (implied_right (u.yes e)) (u.yes e);
             no = λ e h. u.no e (tables_laid (implied_of s steps head.t b) w (right_implied h) h);
           }
+
+-- bytes of another length are no tables
+pub told_longer : (G : Grammar) (w : List ℕ) → (length w ≡ tables_size → ⊥) → Tells (Tables G w) false
+told_longer G w n = tells_no (λ h. n h.size)

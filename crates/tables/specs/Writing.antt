@@ -21,7 +21,7 @@ use Rattle.tables.specs.Tables.{table_rows, row_size, predictions_size, breaks_s
 use Rattle.tables.specs.Grid.{Grid}
 use Rattle.grammar.specs.Prediction.{no_break}
 use Rattle.sets.specs.Words.{follows}
-use Rattle.tables.specs.Cells.{lead, step_of, next, stem_bits, shared_from, behind_of, point_of, step_at, down_of, meet_of, implied_of}
+use Rattle.tables.specs.Cells.{lead, step_of, next, stem_bits, mask_of, shared_from, behind_of, point_of, entry_of, step_at, down_of, meet_of, implied_of}
 
 -- ---- the first symbol that a begins
 
@@ -229,6 +229,23 @@ module _ (s : List ℕ) (M N a : ℕ) where
   behind_stuck e = rw (ne_eqb (get_or s M 0 % 2) 1 e)
 
 pub ruleset pointing = (point_end, point_not, point_both, point_behind, behind_follow, behind_never, behind_stuck)
+
+-- ---- a cell's row and lookahead
+
+pub mask_cell : (steps : List ℕ) (t q a v : ℕ) → a < columns → v ≡ stem_bits steps t a symbol_space (t + 1 + q) 0 → v ≡ mask_of steps t (q * columns + a)
+unfolding mask_of
+mask_cell steps t q a v l e =
+    let x : (q * columns + a) / columns ≡ q = omega arith in
+    let y : (q * columns + a) % columns ≡ a = omega arith in
+    rw (x, y) e
+
+pub entry_cell : (s steps masks : List ℕ) (t r q a v : ℕ) → a < columns → v ≡ point_of s steps t (t + 1 + r) (t + 1 + q) a (get_or masks (q * columns + a) 0)
+    → v ≡ entry_of s steps masks t r (q * columns + a)
+unfolding entry_of
+entry_cell s steps masks t r q a v l e =
+    let x : (q * columns + a) / columns ≡ q = omega arith in
+    let y : (q * columns + a) % columns ≡ a = omega arith in
+    rw (x, y) e
 
 -- ---- break points from break points
 
