@@ -47,11 +47,11 @@ fn run_of(area: &[u8], marks: &[u8], s: usize, slots: usize) -> Option<usize>
     ensures { MatchOption result (Clear area.now marks.now s → ⊥) (λ r. (0 < r) × Run area.now marks.now s slots r) }
 {
     if s + FREE_RUN <= slots + 1 {
-        if s + VISITED_RUN <= slots + 1 && all_visited(marks, s) {
-            return Some(VISITED_RUN);
-        }
         let first = base::four(marks, s);
         if first == FOUR_MARKS {
+            if s + VISITED_RUN <= slots + 1 && all_visited(marks, s) {
+                return Some(VISITED_RUN);
+            }
             return Some(4);
         }
         let others = base::four(marks, s + 4)
