@@ -110,6 +110,9 @@ module _ {G : Grammar} {S : ℕ} {e : Edit} {tree : List ℕ} {r : Result Altere
           let s : x ≡ errors.NoRoom = cc in
           rw s (refused (no_room p))
 
+  pub renews_no_room : r ≡ Err errors.NoRoom → Renews G S e tree (Err reasons.NoRoom) tree'
+  renews_no_room q = renews_refused errors.NoRoom q
+
   pub renews_altered : (nodes : ℕ) (m : Altered) (counts : Counts) (work : List ℕ) → Treed G S tree work nodes → r ≡ Ok m
       → counts ≡ edit_counts m.total m.kept (m.total - m.kept) (nodes - m.kept) → Renews G S e tree (Ok counts) tree'
   renews_altered nodes m counts work h q f =

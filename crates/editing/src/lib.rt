@@ -83,6 +83,7 @@ fn counts_of(o: usize, altered: Altered) -> Counts
 }
 
 // Replies 9 and 10, or the new tree, where good tokens replace a run of the tree of o nodes.
+#[tactic(auto, using(crate::specs::Editing::renews_no_room))]
 pub fn renew(
     language: Language,
     slots: usize,
