@@ -4,3 +4,5 @@ pub mod Viable
 pub mod Ends
 -- Laws: a parse of the parts of a work area.
 pub mod Joined
+-- Law: a parse that stops before the end, of a place with room; in proofs/, since `at_rest` is what an edit of a definition breaks.
+pub mod Rest

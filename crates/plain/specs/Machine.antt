@@ -397,6 +397,3 @@ module _ {rows : List ℕ} {head : Head} {table b : List ℕ} {m : ℕ} (g : Gro
 
           more : {xs : List ℕ} {c : ℕ} → Expects G xs c → xs ≡ [] → c ≡ byte_at b (token_size * k) → ⊥
           more x e f = omega (arith, last x e, f, (g.kinds.is k l).0)
-
-    pub going_rest : {n s : List ℕ} {p o k : ℕ} → length s ≤ p → Going G S b m n s p o k → (k ≡ m → ⊥) → Parses G S (tokens_from b m 0) (syntax k 1)
-    going_rest lp h e = at_rest lp h.at (omega (arith, h.matched))

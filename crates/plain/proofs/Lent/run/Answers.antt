@@ -1,4 +1,5 @@
-use Rattle.plain.specs.Machine.{start_small, going_start, going_rest, at_end}
+use Rattle.plain.specs.Machine.{start_small, going_start, at_end}
+use Rattle.plain.proofs.Rest.{going_rest}
 use Rattle.std.proofs.Common.{rules, arith}
 use Rattle.plain.proofs.Lent.run.Goals as goal
 
