@@ -1,11 +1,11 @@
 -- Runs of bytes: zeros, a copy, and whether all are 0.
-use Rattle.std.specs.Prelude.{ℕ, zero, suc, ◌+◌, ◌-◌, ◌<◌, ◌≤◌, ◌⊎◌, min, ◌≡◌, refl, List, [], ◌∷◌, ◌++◌, length, take, drop, get_or, set, replicate, fold, bit_or, eqb}
+use Rattle.std.specs.Prelude.{ℕ, zero, suc, ◌+◌, ◌-◌, ◌<◌, ◌≤◌, ◌⊎◌, min, ◌≡◌, refl, List, [], ◌∷◌, ◌++◌, length, take, drop, get_or, set, replicate, fold, zip, bit_or, bit_xor, eqb}
 use Rattle.std.proofs.Common.{sym, ap, ◌∙◌, inl, inr, add-one, length-append, length-drop, drop-drop, take_all, eqb-true, rules, arith}
 use Rattle.std.proofs.lemmas.List.{length-replicate, replicate-append-replicate}
 use Rattle.std.proofs.Math.Seq.{take-length, take-append_seam, drop-append-add, paste, paste-suc, paste-zero}
 use Rattle.std.proofs.lemmas.Bool.{eqb-false}
-use Rattle.std.specs.Int.Bits.{or_add_and}
-use Rattle.std.proofs.lemmas.Nat.{and_le_l}
+use Rattle.std.specs.Int.Bits.{or_add_and, xor_add_and, xor_self}
+use Rattle.std.proofs.lemmas.Nat.{and_le_l, and_le_r}
 use Rattle.std.proofs.lemmas.Grind.{common_steps}
 use Rattle.std.proofs.lemmas.List.{places}
 use Rattle.std.proofs.lemmas.List.Edits.{paste_all}
@@ -130,4 +130,34 @@ zeros_told a r q =
     record {
       yes = λ e. (lit_none 0 a (sym q ∙ eqb-true r 0 e)).1;
       no = λ e z. eqb-false r 0 e (q ∙ ap (fold bit_or 0) z ∙ none_lit (length a));
+    }
+
+-- ---- the bits in which two runs of bytes differ
+
+-- lit so far, and where the next two bytes differ
+abbrev pub differing : ℕ → ℕ × ℕ → ℕ
+differing bits p = bit_or bits (bit_xor p.0 p.1)
+
+xor_none : (x y : ℕ) → bit_xor x y ≡ 0 → x ≡ y
+xor_none x y e = omega (arith, xor_add_and x y, and_le_l x y, and_le_r x y)
+
+differing_none : (x : ℕ) (a b : List ℕ) → length a ≡ length b → fold differing x (zip a b) ≡ 0 → (x ≡ 0) × (a ≡ b)
+differing_none x [] [] l e = (e, refl)
+differing_none x [] (z ∷ b) l e = absurd (omega arith)
+differing_none x (y ∷ a) [] l e = absurd (omega arith)
+differing_none x (y ∷ a) (z ∷ b) l e =
+    let h = differing_none (differing x (y, z)) a b (omega arith) e in
+    let k = or_lit x (bit_xor y z) h.0 in
+    (k.0, let q : y ≡ z = xor_none y z k.1 in let p : a ≡ b = h.1 in cc)
+
+none_differing : (a : List ℕ) → fold differing 0 (zip a a) ≡ 0
+none_differing [] = refl
+none_differing (x ∷ a) = ap (λ (n : ℕ). fold differing (bit_or 0 n) (zip a a)) (xor_self x) ∙ none_differing a
+
+-- they are 0 exactly if the bytes are the same
+pub same_told : (a b : List ℕ) (r : ℕ) → length a ≡ length b → r ≡ fold differing 0 (zip a b) → Tells (a ≡ b) (eqb r 0)
+same_told a b r l q =
+    record {
+      yes = λ e. (differing_none 0 a b l (sym q ∙ eqb-true r 0 e)).1;
+      no = λ e z. eqb-false r 0 e (q ∙ ap (λ (c : List ℕ). fold differing 0 (zip a c)) (sym z) ∙ none_differing a);
     }

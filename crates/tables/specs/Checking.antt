@@ -1,9 +1,14 @@
 -- Bytes held against the break points that they imply, row by row: each row is written by itself and compared.
-use Rattle.std.specs.Prelude.{ℕ, ◌+◌, ◌-◌, ◌*◌, ◌/◌, ◌%◌, ◌≤◌, ◌<◌, ◌≡◌, Bool, false, List, length, get_or, take, drop}
+use Rattle.std.specs.Prelude.{ℕ, ◌+◌, ◌-◌, ◌*◌, ◌/◌, ◌%◌, ◌≤◌, ◌<◌, ◌≡◌, Bool, true, false, List, length, get_or, take, drop}
 use Rattle.std.proofs.Common.{sym, ap, ◌∙◌, length-drop, ext_get_or, get_or-drop, get_or-take, length-take-le, arith}
+use Rattle.std.specs.Prelude.{Option, Some, None, IsTrue, MatchBool, IfSome, IsSomeAnd, option_map}
+use Rattle.std.specs.List.{IsSubsliceAt}
+use Rattle.std.specs.Iterator.Runs.{Run, AllItems, AnyItem, ItemsMapToExactChunks}
+use denote.Ref.{Bor}
 use Rattle.std.proofs.Math.Logic.{by_cases}
 use Rattle.std.proofs.Math.Decide.{ℕ_discrete, dec_lt}
-use Rattle.base.specs.Tells.{Tells, tells_no}
+use Rattle.base.specs.Tells.{Tells, tells_yes, tells_no}
+use Rattle.base.specs.Choose.{never}
 use Rattle.base.specs.Blocks.{zeros, byte_zeros, length_zeros, part_tail}
 use Rattle.grammar.specs.Limits.{columns}
 use Rattle.tables.specs.Tables.{table_rows, row_size, predictions_size, breaks_size, tables_size, break_place}
@@ -16,6 +21,35 @@ use Rattle.tables.specs.Writing.{Broken, Laid, implied_none, part, part_byte, pa
 pub record Blank (n c : ℕ) (row : List ℕ) : Type 0 where
   pub long : length row ≡ row_size
   pub other : (Q a : ℕ) → Q < table_rows → a < columns → (Q < n → a < c → ⊥) → get_or row (Q * columns + a) 0 ≡ 0
+
+-- ---- whether all rows are 0
+
+-- a run over the rows of b, and what a test said of each
+module _ {S : Type 0} {steps : S → Option (Bor (List ℕ)) → S → Type 0} (p : Run steps) (b : Bor (List ℕ)) {K : Type 0} {Yes No : Bor (List ℕ) → Type 0}
+    (even : length b.now % row_size ≡ 0) (rows : ItemsMapToExactChunks p (λ x. x.now) row_size b.now)
+    (kept : K) (yes : (x : Bor (List ℕ)) → Yes x → x.now ≡ zeros (length x.now)) (no : (x : Bor (List ℕ)) → No x → x.now ≡ zeros (length x.now) → ⊥) where
+  abbrev Row : ℕ → Bor (List ℕ) → Type 0
+  Row k x = (length x.now ≡ row_size) × (k * row_size + row_size ≤ length b.now) × IsSubsliceAt row_size b.now (k * row_size) x.now
+
+  row_zero : (k j : ℕ) (o : Option (Bor (List ℕ))) {v : Bor (List ℕ)} → option_map (λ y. y) o ≡ Some v → IfSome o (Row k) → IfSome o Yes → j < row_size
+      → get_or b.now (k * row_size + j) 0 ≡ 0
+  row_zero k j None e r y l = never (cc)
+  row_zero k j (Some x) e r y l = sym (r.2.2 j 0 l) ∙ ap (λ (u : List ℕ). get_or u j 0) (yes x y) ∙ byte_zeros (length x.now) j
+
+  row_not : (k : ℕ) (o : Option (Bor (List ℕ))) → IfSome o (Row k) → IsSomeAnd o No → b.now ≡ zeros (length b.now) → ⊥
+  row_not k None r y z = y
+  row_not k (Some x) r y z = no x y (ext_get_or 0 x.now (zeros (length x.now)) (sym (length_zeros (length x.now))) (λ j l.
+      r.2.2 j 0 (omega (arith, r.0)) ∙ ap (λ (u : List ℕ). get_or u (k * row_size + j) 0) z ∙ byte_zeros (length b.now) (k * row_size + j)
+      ∙ sym (byte_zeros (length x.now) j)))
+
+  pub zeros_by_rows : (r : Bool) → MatchBool r (IsTrue p.whole × (K → AllItems p Yes)) (K → AnyItem p No) → Tells (b.now ≡ zeros (length b.now)) r
+  zeros_by_rows true h = tells_yes (ext_get_or 0 b.now (zeros (length b.now)) (sym (length_zeros (length b.now))) (λ i l.
+      let k : ℕ = i / row_size in
+      let j : ℕ = i % row_size in
+      let e : k * row_size + j ≡ i = omega arith in
+      let z : get_or b.now (k * row_size + j) 0 ≡ 0 = row_zero k j (p.at k) (p.reads k b (omega (arith, rows.1 h.0))) (rows.2 k) (h.1 kept k) (omega arith) in
+      (rw e at z) ∙ sym (byte_zeros (length b.now) i)))
+  zeros_by_rows false h = let a = h kept in tells_no (row_not a.0 (p.at a.0) (rows.2 a.0) a.2)
 
 -- the rows below r are right
 pub record Held (f : ℕ → ℕ → ℕ) (n c r : ℕ) (w : List ℕ) : Type 0 where

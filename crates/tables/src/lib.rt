@@ -3,7 +3,8 @@
 // Lent tables are tested without masks: a break point follows from those one step down either stem.
 #![tactic(auto)]
 
-ghost use Rattle.std.specs.Prelude.{◌≡◌, ℕ, ◌+◌, ◌*◌, ◌<◌, ◌≤◌, length, drop, MatchOption};
+ghost use Rattle.std.specs.Prelude.{◌≡◌, ℕ, ◌+◌, ◌*◌, ◌%◌, ◌<◌, ◌≤◌, length, drop, MatchOption};
+ghost use Rattle.base.specs.Blocks.{zeros};
 ghost use Rattle.base.specs.Tells.{Tells};
 ghost use Rattle.grammar.specs.Limits.{max_terminals, max_nonterminals, columns};
 ghost use Rattle.grammar.specs.Rows.{symbol_space, grammar_in};
@@ -101,6 +102,14 @@ fn lead(rows: &[u8], p: usize, a: usize, sets: &[u32; SETS_SIZE]) -> Option<usiz
         }
     }
     None
+}
+
+// Whether the rows are all 0. Each is asked for itself: its length is known, so that more bytes are read at once.
+fn zero_rows(rows: &[u8]) -> bool
+    requires { length rows.now % row_size ≡ 0 }
+    ensures { Tells (rows.now ≡ zeros (length rows.now)) result }
+{
+    rows.chunks_exact(ROW_SIZE).all(base::all_zero)
 }
 
 // What the break points follow from: the words of the sets, and the steps down the stems.
@@ -346,7 +355,7 @@ impl Stems<'_> {
                 return false;
             }
         }
-        base::all_zero(&w[self.shape.n * ROW_SIZE..])
+        zero_rows(&w[self.shape.n * ROW_SIZE..])
     }
 
     // The predictions in the cells, then the break points. The tail of the lent tables, from byte 1,024, is lent on to the break-point writer.

@@ -1,4 +1,4 @@
-use Rattle.std.proofs.Common.{◌-◌, ◌≤◌, ◌≡◌, length}
+use Rattle.std.proofs.Common.{◌≡◌, length}
 use Rattle.std.proofs.Math.Seq.{paste}
 use Rattle.base.proofs.copy.Given as goal
 

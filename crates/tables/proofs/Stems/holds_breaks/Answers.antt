@@ -21,4 +21,4 @@ returns-then-not-same c =
     held_not _ _ _ _ _ _ _ c.requires (omega arith) (omega arith) (omega arith) c.loop-r.invariant.blank c.imply_row.ensures (c.same.ensures.no c.if-not-same.true)
 
 pub returns : goal.returns
-returns c = held_all _ _ _ _ _ _ _ c.requires (omega arith) (omega arith) (omega arith) c.loop-r.invariant.held c.all_zero.ensures (search rules)
+returns c = held_all _ _ _ _ _ _ _ c.requires (omega arith) (omega arith) (omega arith) c.loop-r.invariant.held c.zero_rows.ensures (search rules)
