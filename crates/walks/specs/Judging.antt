@@ -49,6 +49,9 @@ module _ (b : List ℕ) (s x : ℕ) where
       let o = ap (byte_at b) q in
       tells_no (λ h. let f = fields b s h.used.is in n (omega (arith, e, o, f.spare, f.spare')))
 
+  pub looks_symbol : (v : ℕ) → Known b → v ≡ get16 b (slot_size * s + symbol_place) → (v % 256 ≡ x → ⊥) → Tells (Looks b s x) false
+  looks_symbol v k e n = tells_no (λ h. n ((both_in b s v e k).0 ∙ h.symbol))
+
   looks_yes : (u v : ℕ) → Known b → slot_size * s + slot_size ≤ length b → u ≡ get16 b (slot_size * s) → u ≡ 0x444E → v ≡ get16 b (slot_size * s + spare_place) → v ≡ 0
       → symbol_in b s ≡ x → Tells (Looks b s x) true
   looks_yes u v k l eu u' ev v' e =
@@ -61,7 +64,24 @@ module _ (b : List ℕ) (s x : ℕ) where
         symbol = e;
       })
 
-  -- the symbol decides
+  -- the symbol first
+  pub looks_other : (y : ℕ) → Known b → y ≡ get16 b (slot_size * s + symbol_place) → (y % 256 ≡ x → ⊥) → Tells (Looks b s x) (eqb (y % 256) x)
+  looks_other y k ey n =
+      ⊎_elim (λ (h : (eqb (y % 256) x ≡ true) × (y % 256 ≡ x)). absurd (n h.1)) (λ (h : (eqb (y % 256) x ≡ false) × (y % 256 ≡ x → ⊥)). rw h.0 (looks_symbol y k ey n)) (eqb_tells (y % 256) x)
+
+  -- then the mark and the zeros decide, as one number
+  pub looks_once : (u v y : ℕ) → Known b → slot_size * s + slot_size ≤ length b → u ≡ get16 b (slot_size * s) → u < 65536 → v ≡ get16 b (slot_size * s + spare_place)
+      → y ≡ get16 b (slot_size * s + symbol_place) → y % 256 ≡ x → Tells (Looks b s x) (eqb (u + 65536 * v) 0x444E)
+  looks_once u v y k l eu lu ev ey e =
+      let m : ℕ = u + 65536 * v in
+      ⊎_elim (λ (h : (eqb m 0x444E ≡ true) × (m ≡ 0x444E)). rw h.0 (looks_yes u v k l eu (omega (arith, lu, h.1)) ev (omega (arith, h.1)) (sym (both_in b s y ey k).0 ∙ e)))
+      (λ (h : (eqb m 0x444E ≡ false) × (m ≡ 0x444E → ⊥)). rw h.0 (unlike h.1)) (eqb_tells m 0x444E)
+    where
+      unlike : (u + 65536 * v ≡ 0x444E → ⊥) → Tells (Looks b s x) false
+      unlike n =
+          ⊎_elim (λ (h : (eqb u 0x444E ≡ true) × (u ≡ 0x444E)). looks_spare v ev (λ z. n (omega (arith, h.1, z)))) (λ (h : (eqb u 0x444E ≡ false) × (u ≡ 0x444E → ⊥)). looks_mark u eu h.1) (eqb_tells u 0x444E)
+
+  -- or the symbol decides, the others known
   pub looks_told : (u v y : ℕ) → Known b → slot_size * s + slot_size ≤ length b → u ≡ get16 b (slot_size * s) → u ≡ 0x444E → v ≡ get16 b (slot_size * s + spare_place) → v ≡ 0
       → y ≡ get16 b (slot_size * s + symbol_place) → Tells (Looks b s x) (eqb (y % 256) x)
   looks_told u v y k l eu u' ev v' ey =
@@ -100,6 +120,10 @@ module _ (rows ws : List ℕ) (t count x p g : ℕ) where
     pub kin_tag : (g ≡ 0 → ⊥) → Kin rows t count x p g None
     kin_tag z = Kin.none (λ e. absurd (n e)) (λ q i m o u. z u)
 
+    -- the tag and the left side as one number
+    pub kin_apart : (512 * g + get_or ws p 0 % 128 ≡ 64 + x → ⊥) → Kin rows t count x p g None
+    kin_apart z = ⊎_elim (λ (e : (eqb g 0 ≡ true) × (g ≡ 0)). kin_left (λ o. z (omega (arith, e.1, o)))) (λ (e : (eqb g 0 ≡ false) × (g ≡ 0 → ⊥)). kin_tag e.1) (eqb_tells g 0)
+
     pub kin_node : get_or ws p 0 % 128 ≡ 64 + x → g ≡ 0 → Kin rows t count x p g (Some (Body (get_or ws p 0 / 128)))
     kin_node e z = go p n low e
       where
@@ -112,6 +136,10 @@ module _ (rows ws : List ℕ) (t count x p g : ℕ) where
             (below q count)
 
 pub ruleset kinds = (kin_zero, kin_over, kin_leaf, kin_left, kin_tag, kin_node)
+
+-- a node with a body has no tag
+pub kin_untagged : {rows : List ℕ} {t count x p g r : ℕ} → Kin rows t count x p g (Some (Body r)) → g ≡ 0
+kin_untagged (Kin.node e l o z d) = z
 
 -- the children's symbols are the digits of r, none for a leaf, which counts as 1
 pub data Counts : Option Kids → ℕ → ℕ → Type 0 where

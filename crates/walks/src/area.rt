@@ -20,15 +20,15 @@ pub struct Area<'a> {
 }
 
 impl<'a> Area<'a> {
-    // Whether slot s has a used slot's mark and zeros, and the symbol x.
+    // Whether slot s has a used slot's mark and zeros, and the symbol x. Mark and zeros are one number, so that one look tells both.
     pub fn looks(self, s: usize, x: usize) -> bool
         requires { s ≤ self.slots }
         ensures { Tells (Looks self.entry.bytes.now s x) result }
     {
         let at = trees::SLOT_SIZE * s;
-        base::two(self.bytes, at) == NODE_MARKS
-            && base::two(self.bytes, at + trees::SPARE_PLACE) == 0
-            && base::two(self.bytes, at + trees::SYMBOL_PLACE) % 256 == x
+        base::two(self.bytes, at + trees::SYMBOL_PLACE) % 256 == x
+            && base::two(self.bytes, at) + 65536 * base::two(self.bytes, at + trees::SPARE_PLACE)
+                == NODE_MARKS
     }
 
     // Whether slot s is below the slot `parent`, and has no first child where its children's symbols are those of the body 0. Parent and first child are one

@@ -14,7 +14,7 @@ ghost use Rattle.std.specs.Prelude.{◌%◌, ◌≡◌, ◌+◌, ◌*◌, ◌<�
 ghost use Rattle.base.specs.Blocks.{zeros};
 ghost use Rattle.base.specs.Tells.{Tells};
 ghost use Rattle.grammar.specs.Rows.{symbol_space, grammar_in};
-ghost use Rattle.trees.specs.Area.{slot_size, max_slots, area_size};
+ghost use Rattle.trees.specs.Area.{slot_size, max_slots, area_size, tag_space};
 ghost use Rattle.walks.specs.Words.{word_count, Worded};
 ghost use Rattle.walks.specs.Slots.{first_in, next_in};
 ghost use Rattle.walks.specs.Judging.{Looks, Hangs, Kin, Visited};
@@ -73,7 +73,7 @@ struct Walk {
 impl<'a> Rules<'a> {
     // The children of a node with symbol x, production p and tag g, or that there is no such node.
     fn kin(&self, x: usize, p: usize, g: usize) -> Option<Kids>
-        requires { Worded self.now.rows.now self.now.head.count self.now.words.now × (x < 256) × (p < 256) }
+        requires { Worded self.now.rows.now self.now.head.count self.now.words.now × (x < 256) × (p < 256) × (g < tag_space) }
         ensures { Kin self.now.rows.now self.now.head.t self.now.head.count x p g result }
     {
         if p == 0 {
@@ -83,7 +83,9 @@ impl<'a> Rules<'a> {
             return Some(Kids::Leaf);
         }
         let v = self.words[p];
-        if v % words::BASE != words::DIGIT + x || g != 0 {
+        // One look tells both, that the tag is 0 and the left side x, since DIGIT + x is below 512.
+        let found = 512 * g + v % words::BASE;
+        if found != words::DIGIT + x {
             return None;
         }
         Some(Kids::Body(v / words::BASE))
@@ -109,7 +111,7 @@ fn visit(area: Area, rules: &Rules, due: Siblings, w: &mut [u8], i: usize) -> Op
     }
     let mark = marks_at(area.slots) + s;
     let x = due.symbols % words::DIGIT;
-    if w[mark] != 0 || !area.looks(s, x) {
+    if !area.looks(s, x) || w[mark] != 0 {
         return None;
     }
     let at = trees::SLOT_SIZE * s;
@@ -130,7 +132,8 @@ fn visit(area: Area, rules: &Rules, due: Siblings, w: &mut [u8], i: usize) -> Op
             area.hangs(s, due.parent, 0).then_some(Kids::Leaf)
         }
         Kids::Body(body) => {
-            trees::put_node(w, i, node);
+            // Its tag is 0, which the compiler doesn't see.
+            trees::put_node(w, i, Node { tag: 0, ..node });
             w[mark] = 1;
             area.hangs(s, due.parent, body).then_some(Kids::Body(body))
         }
@@ -193,45 +196,47 @@ fn wander(area: Area, rules: &Rules, w: &mut [u8]) -> Option<Walk>
             Kids::Body(b) => b,
         };
         nodes += 1;
-        let rest = due.symbols / words::BASE;
-        // The next sibling is read on either way: read before them, the ways of a leaf and of a body join, and read back takes a seventh longer.
-        due = if body != 0 {
-            let next = area.next_in(due.slot);
-            if rest != 0 {
-                put_frame(
-                    w,
-                    top,
-                    Siblings {
-                        slot: next,
-                        symbols: rest,
-                        ..due
-                    },
-                );
-                top += FRAME_SIZE;
-            } else if next != 0 {
+        due.symbols /= words::BASE;
+        // Each way ends by itself, and reads the next sibling itself: where the ways of a leaf and of a body join, the walk takes longer.
+        if body == 0 {
+            if due.symbols == 0 {
+                if area.next_in(due.slot) != 0 {
+                    return None;
+                }
+                if top == bottom {
+                    return Some(Walk { nodes, leaves });
+                }
+                top -= FRAME_SIZE;
+                due = frame_at(w, top);
+                continue;
+            }
+            due.slot = area.next_in(due.slot);
+            continue;
+        }
+        if due.symbols == 0 {
+            if area.next_in(due.slot) != 0 {
                 return None;
             }
-            Siblings {
+            due = Siblings {
                 slot: area.first_in(due.slot),
                 parent: due.slot,
                 symbols: body,
-            }
-        } else {
-            let next = area.next_in(due.slot);
-            if rest != 0 {
-                Siblings {
-                    slot: next,
-                    symbols: rest,
-                    ..due
-                }
-            } else if next != 0 {
-                return None;
-            } else if top == bottom {
-                return Some(Walk { nodes, leaves });
-            } else {
-                top -= FRAME_SIZE;
-                frame_at(w, top)
-            }
+            };
+            continue;
+        }
+        put_frame(
+            w,
+            top,
+            Siblings {
+                slot: area.next_in(due.slot),
+                ..due
+            },
+        );
+        top += FRAME_SIZE;
+        due = Siblings {
+            slot: area.first_in(due.slot),
+            parent: due.slot,
+            symbols: body,
         };
     }
 }

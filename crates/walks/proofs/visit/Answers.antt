@@ -1,16 +1,16 @@
-use Rattle.std.proofs.Common.{rules, refl, ap, ◌∙◌, Some}
-use Rattle.walks.specs.Judging.{Visited, taken_leaf, taken_body, visited_marked, visited_unlike, visited_unfit, visited_hung}
+use Rattle.std.proofs.Common.{rules, refl, ap, sym, ◌≡◌, ◌∙◌, Some}
+use Rattle.walks.specs.Judging.{Visited, kin_untagged, taken_leaf, taken_body, visited_marked, visited_unlike, visited_unfit, visited_hung}
 use Rattle.walks.proofs.visit.Goals as goal
-use Rattle.walks.proofs.visit.Goals.{then-w-mark-ne0-via-then-w-mark-ne0, then-w-mark-ne0-via-else-w-mark-ne0+then-not-looks}
+use Rattle.walks.proofs.visit.Goals.{then-not-looks-via-else-not-looks+then-w-mark-ne0, then-not-looks-via-then-not-looks}
 
 pub returns-then-area-s : goal.returns-then-area-s
 returns-then-area-s c = Visited.over (search rules)
 
-pub returns-then-w-mark-ne0 : goal.returns-then-w-mark-ne0
-returns-then-w-mark-ne0 c =
-    elim c.then-w-mark-ne0.branch [
-      | then-w-mark-ne0-via-then-w-mark-ne0 w ↦ visited_marked _ _ _ _ _ _ _ _ _ _ _ c.marks_at.ensures c.if-area-s.false w.if-w-mark-ne0.true
-      | then-w-mark-ne0-via-else-w-mark-ne0+then-not-looks w ↦ visited_unlike _ _ _ _ _ _ _ _ _ _ _ w.looks.ensures (search rules)
+pub returns-then-not-looks : goal.returns-then-not-looks
+returns-then-not-looks c =
+    elim c.then-not-looks.branch [
+      | then-not-looks-via-else-not-looks+then-w-mark-ne0 w ↦ visited_marked _ _ _ _ _ _ _ _ _ _ _ c.marks_at.ensures c.if-area-s.false w.if-w-mark-ne0.true
+      | then-not-looks-via-then-not-looks w ↦ visited_unlike _ _ _ _ _ _ _ _ _ _ _ c.looks.ensures (search rules)
     ]
 
 pub returns-in_err-kin : goal.returns-in_err-kin
@@ -24,6 +24,8 @@ returns-in-Leaf c =
 
 pub returns-in-Body : goal.returns-in-Body
 returns-in-Body c =
+    let e = c.in_ok-kin.was ∙ ap Some c.in-Body.is in
+    let z : c.four-g.result ≡ 0 = kin_untagged (rw e at c.kin.ensures) in
     rw c.then_some-in-Body.ensures
-    (visited_hung _ _ _ _ _ _ _ _ _ _ _ c.marks_at.ensures c.if-area-s.false _ _ (record { small = c.args.area.known }) c.two-both.ensures.0 c.four-g.ensures.0 _ c.kin.ensures c.if-w-mark-ne0.false (c.looks.ensures.yes (search rules)) c.four-g.ensures.1 _ (c.in_ok-kin.was ∙ ap Some c.in-Body.is) _ 0
-    (taken_body _ _ _ _ refl refl refl) _ c.hangs-in-Body.ensures _ _ c.put_node-in-Body.ensures refl)
+    (visited_hung _ _ _ _ _ _ _ _ _ _ _ c.marks_at.ensures c.if-area-s.false _ _ (record { small = c.args.area.known }) c.two-both.ensures.0 c.four-g.ensures.0 _ c.kin.ensures c.if-w-mark-ne0.false (c.looks.ensures.yes (search rules)) c.four-g.ensures.1 _ e _ 0
+    (taken_body _ _ _ _ refl refl refl) _ c.hangs-in-Body.ensures _ _ (rw (sym z) at c.put_node-in-Body.ensures) refl)
