@@ -60,6 +60,19 @@ module _ {G : Grammar} {S : ℕ} {tree : List ℕ} {room : ℕ} {work : List ℕ
   found_tree o (finds_none n) e = never (cc)
   found_tree o (finds_short v l) e = never (cc)
 
+  -- the area is no valid tree
+  pub found_none : {r : Result ℕ Reason} → Finds G S tree room work r → r ≡ Err reasons.WrongTree → Valid G S tree → ⊥
+  found_none (finds_tree h l m) e = never (cc)
+  found_none (finds_none n) e = n
+  found_none (finds_short v l) e = never (cc)
+
+  -- the area is a valid tree, and the work area was too short for it
+  pub found_short : {r : Result ℕ Reason} {need : ℕ} → Finds G S tree room work r → r ≡ Err (reasons.ShortWork need)
+      → Valid G S tree × (room < work_areas * length tree)
+  found_short (finds_tree h l m) e = never (cc)
+  found_short (finds_none n) e = never (cc)
+  found_short (finds_short v l) e = (v, l)
+
 -- ---- reply 8: the range
 
 -- the header counts the tokens of a valid tree

@@ -3,11 +3,12 @@ use Rattle.std.specs.Prelude.{ℕ, zero, suc, ◌+◌, ◌≤◌, ◌<◌, ◌�
 use Rattle.std.proofs.Common.{ap, arith}
 use Rattle.std.specs.Result.{MatchResult, IsErrAnd}
 use Rattle.base.specs.Choose.{never}
+use Rattle.base.specs.Blocks.{length_zeros}
 use Rattle.grammar.specs.Limits.{max_terminals, max_nonterminals, max_productions}
 use Rattle.grammar.specs.Grammar.{Grammar, WellFormed}
 use Rattle.grammar.specs.Derivation.{Useless}
 use Rattle.grammar.specs.Image.{Image}
-use Rattle.grammar.specs.Rows.{symbol_space, productions_from, grammar_in, head_of, rows_of, rows_grammar, start_small}
+use Rattle.grammar.specs.Rows.{rows_size, symbol_space, productions_from, grammar_in, head_of, rows_of, rows_grammar, start_small}
 use Rattle.grammar.specs.Outcome.{Reads, reads_good, reads_bad}
 use Rattle.grammar.specs.declared.Head.{Head}
 use Rattle.grammar.specs.declared.BadRecord.{BadRecord}
@@ -58,6 +59,12 @@ check_bad bad (reads_bad {k = j} b) e =
     let m : BadRecord = record { offset = j } in
     let q : m ≡ bad = cc in
     rw (← q) (unfit (bad_image b))
+
+-- the rows are zeros then
+pub bad_sized : {image rows : List ℕ} {r : Result Head BadRecord} (bad : BadRecord) → Reads image r rows → r ≡ Err bad
+    → length rows ≡ rows_size
+bad_sized bad (reads_good G i) e = never (cc)
+bad_sized bad (reads_bad b) e = length_zeros rows_size
 
 module _ {image : List ℕ} (rows : List ℕ) (h : Head) (good : Image image (grammar_in rows h)) where
   f : WellFormed (grammar_in rows h)

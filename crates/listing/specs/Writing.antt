@@ -1,9 +1,9 @@
 -- A text written row by row: how much room it takes, and what a turn of the loop adds to a row.
-use Rattle.std.specs.Prelude.{ℕ, ◌+◌, ◌-◌, ◌*◌, ◌^◌, ◌<◌, ◌≡◌, refl, ◌⊎◌, List, [], ◌∷◌, ◌++◌, length, get_or, drop, ltb, decimal}
-use Rattle.std.proofs.Common.{sym, ap, ◌∙◌, inl, inr, append_assoc, append-nil, length-drop, lt-ltb, le-ltb, arith}
+use Rattle.std.specs.Prelude.{ℕ, zero, suc, ◌+◌, ◌-◌, ◌*◌, ◌/◌, ◌%◌, ◌^◌, ◌≤◌, ◌<◌, ◌≡◌, refl, ◌⊎◌, List, [], ◌∷◌, ◌++◌, length, get_or, drop, ltb, decimal}
+use Rattle.std.proofs.Common.{sym, ap, ◌∙◌, inl, inr, append_assoc, append-nil, length-append, length-drop, lt-ltb, le-ltb, arith}
 use Rattle.std.proofs.lemmas.Fmt.{decimal_from_appends, length-decimal-le}
 use Rattle.std.proofs.lemmas.List.{drop_more}
-use Rattle.base.specs.Choose.{choose_yes, choose_no}
+use Rattle.base.specs.Choose.{choose_of, choose_yes, choose_no}
 use Rattle.trees.specs.Area.{max_slots}
 use Rattle.listing.specs.Text.{digits_of, most_digits, field, row, space, newline}
 
@@ -18,6 +18,15 @@ abbrev pub text_room : ℕ
 text_room = line_room * (max_slots + 1)
 
 -- ---- a number's digits
+
+-- at most f digits
+pub length_digits : (f n : ℕ) → length (digits_of f n) ≤ f
+unfolding digits_of
+length_digits zero n = omega arith
+length_digits (suc f) n =
+    choose_of (λ (u : List ℕ). length u ≤ suc f) (ltb n 10) (λ _. (48 + n) ∷ [])
+    (λ _. digits_of f (n / 10) ++ ((48 + n % 10) ∷ [])) (λ _. omega arith)
+    (λ _. omega (arith, length_digits f (n / 10), length-append (digits_of f (n / 10)) ((48 + n % 10) ∷ [])))
 
 pub digits_text : (n : ℕ) → n < 2 ^ 64 → digits_of most_digits n ≡ decimal n
 unfolding digits_of

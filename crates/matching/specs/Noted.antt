@@ -6,7 +6,7 @@ use Rattle.trees.specs.Coded.{node_at}
 use Rattle.notes.specs.declared.Notes.{Notes}
 use Rattle.notes.specs.Views.{nodes_in, matches_in}
 use Rattle.notes.specs.Lists.{nodes_of, ends_of, widths_of, starts_of, matches_of, Lent, Same, same_then, Viewed}
-use Rattle.matching.specs.Measure.{tree_in, Built, Spanned, Gauged}
+use Rattle.matching.specs.Measure.{tree_in, Built, Measured, Spanned, Gauged}
 use Rattle.matching.specs.Finding.{Leaved, Started}
 use Rattle.matching.specs.Handing.{Rising, Few, Handed, HandedAll}
 use Rattle.matching.specs.Matching.{Stepped, Reach, Turned}
@@ -40,6 +40,11 @@ module _ {u v : Notes} {ns es ws ss ms : List ℕ} (h : Viewed u v ns es ws ss m
   -- of the lists, so of the work area
   pub built_in : {rows : List ℕ} {n base : ℕ} → Built rows ns n base → Built rows (nodes_of v) n base
   built_in g = rw h.nodes g
+
+  pub measured_in : (rows : List ℕ) (n : ℕ) {base i : ℕ} {ends widths : List ℕ}
+      → Measured (tree_in rows ns n base) base i ends widths
+      → Measured (tree_in rows (nodes_of v) n base) base i ends widths
+  measured_in rows n g = rw h.nodes g
 
   pub started_in : {n T : ℕ} → Started ns n T ss → Started (nodes_of v) n T (starts_of v)
   started_in g = rw (h.nodes, h.starts) g

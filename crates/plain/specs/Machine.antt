@@ -129,7 +129,7 @@ length_symbols rows j zero i = refl
 length_symbols rows j (suc k) i = ap suc (length_symbols rows j k (i + 1))
 
 -- the same bytes from p on
-drop_kept : (s s' : List ℕ) (p : ℕ) → length s' ≡ length s → ((j : ℕ) → p ≤ j → byte_at s' j ≡ byte_at s j) → drop p s' ≡ drop p s
+pub drop_kept : (s s' : List ℕ) (p : ℕ) → length s' ≡ length s → ((j : ℕ) → p ≤ j → byte_at s' j ≡ byte_at s j) → drop p s' ≡ drop p s
 drop_kept s s' p l h =
     ext_get_or 0 (drop p s') (drop p s) (length-drop p s' ∙ ap (λ (x : ℕ). x - p) l ∙ sym (length-drop p s))
     (λ i x. get_or-drop p s' i 0 ∙ h (p + i) (omega arith) ∙ sym (get_or-drop p s i 0))

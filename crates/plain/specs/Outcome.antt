@@ -36,6 +36,15 @@ module _ {t : ℕ} {b : List ℕ} {i : ℕ} (h : Kinds t b i) (f : Bytes b) wher
   pub told_kind : i < length b / token_size → (TerminalOf t (byte_at b (token_size * i)) → ⊥) → BadToken t b i
   told_kind l n = bad_token t b i f (omega arith) h (inr n)
 
+  -- a kind 0, or above t
+  pub told_zero : {a : ℕ} → i < length b / token_size → a ≡ byte_at b (token_size * i) → a ≡ 0
+      → Told t b (Err (record { number = i }))
+  told_zero l q z = bad_token t b i f (omega arith) h (inr (λ w. omega (arith, w.0, q, z)))
+
+  pub told_high : {a : ℕ} → i < length b / token_size → a ≡ byte_at b (token_size * i) → t < a
+      → Told t b (Err (record { number = i }))
+  told_high l q z = bad_token t b i f (omega arith) h (inr (λ w. omega (arith, w.1, q, z)))
+
   pub told_cut : i ≡ length b / token_size → (length b % token_size ≡ 0 → ⊥) → BadToken t b (length b / token_size)
   told_cut q n = rw (← q) (bad_token t b i f (omega arith) h (inl (omega arith)))
 

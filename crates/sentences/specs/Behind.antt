@@ -1,13 +1,14 @@
 -- Tokens written behind the nodes, in the same bytes: the nodes are what they were.
-use Prim.Native.Nat.{ℕ, ◌-◌, ◌*◌, ◌/◌, ◌≤◌, ◌<◌}
-use Rattle.std.specs.Prelude.{◌≡◌}
+use Prim.Native.Nat.{ℕ, ◌+◌, ◌-◌, ◌*◌, ◌/◌, ◌≤◌, ◌<◌, min}
+use Rattle.std.specs.Prelude.{◌≡◌, refl}
 use Rattle.std.proofs.Math.Path.{ap}
-use Rattle.std.proofs.Common.{◌∙◌, take_at}
-use mathlib.Core.List.{List, ◌++◌}
+use Rattle.std.proofs.Common.{◌∙◌, take-add, take_at}
+use mathlib.Core.List.{List, ◌++◌, append_assoc}
 use Rattle.std.proofs.Math.ListN.{length, take, drop, length-append, length-drop, get_or-append}
-use Rattle.std.proofs.Math.Seq.{length-take-le, drop_at, get_or-take}
+use Rattle.std.proofs.Math.Seq.{length-take-le, drop_at, drop-drop, get_or-take, length-paste}
 use native.Mathlib.Omega.{arith}
 use Rattle.base.specs.Bytes.{byte_at}
+use Rattle.base.specs.Blocks.{copied}
 use Rattle.grammar.specs.Forest.{Token}
 use Rattle.trees.specs.Nodes.{leaves_of}
 use Rattle.trees.specs.Coded.{node_size, node_at, nodes_from}
@@ -22,6 +23,9 @@ pub record Fronted (a : ℕ) (w w' : List ℕ) : Type 0 where
   pub long : length w' ≡ length w
   pub each : (j : ℕ) → j < a → byte_at w' j ≡ byte_at w j
 
+pub fronted_none : (a : ℕ) (w : List ℕ) → Fronted a w w
+fronted_none a w = record { long = refl; each = λ j l. refl }
+
 pub fronted_then : {a : ℕ} {w w' w'' : List ℕ} → Fronted a w w' → Fronted a w' w'' → Fronted a w w''
 fronted_then h k = record { long = k.long ∙ h.long; each = λ j l. k.each j l ∙ h.each j l }
 
@@ -33,6 +37,42 @@ module _ {a : ℕ} {w w' : List ℕ} (h : Fronted a w w') (n : ℕ) (l : node_si
   pub leaves_same : (i : ℕ) → leaves_from w' n i ≡ leaves_from w n i
   unfolding leaves_from
   leaves_same i = ap leaves_of (nodes_kept w w' (n - i) i (λ j x y. h.each j (omega arith)))
+
+-- a copy behind them
+module _ (w : List ℕ) (text k : ℕ) (src : List ℕ) (l : text + k ≤ length w) where
+  pub fronted_copied : Fronted text w (copied w (text + k) src)
+  unfolding copied
+  fronted_copied =
+      let m : ℕ = min (length src) (length w - (text + k)) in
+      let front : List ℕ = take (text + k) w in
+      let behind : List ℕ = drop (text + k + m) w in
+      record {
+        long = length-paste w (text + k) src m (omega arith) (omega arith);
+        each = λ j x.
+            let d : j < length front = omega (arith, length-take-le (text + k) w l) in
+            let e : j < length (front ++ take m src) = omega (arith, length-append front (take m src)) in
+            get_or-append (front ++ take m src) behind 0 j e ∙ get_or-append front (take m src) 0 j d
+            ∙ get_or-take (text + k) w j 0 (omega arith);
+      }
+
+  pub drop_copied : drop text (copied w (text + k) src) ≡ copied (drop text w) k src
+  unfolding copied
+  drop_copied =
+      let m : ℕ = min (length src) (length w - (text + k)) in
+      let part : List ℕ = take m src in
+      let behind : List ℕ = drop (text + k + m) w in
+      let q : min (length src) (length (drop text w) - k) ≡ m = omega (arith, length-drop text w) in
+      let z : text + (k + m) ≡ text + k + m = omega arith in
+      let d : drop (k + m) (drop text w) ≡ behind = drop-drop (k + m) text w ∙ ap (λ (x : ℕ). drop x w) z in
+      let t : take (text + k) w ++ part ++ behind ≡ take text w ++ (take k (drop text w) ++ part ++ behind) =
+      rw (
+        take-add text k w,
+        append_assoc (take text w) (take k (drop text w)) part,
+        append_assoc (take text w) (take k (drop text w) ++ part) behind,
+      )
+      in
+      ap (drop text) t ∙ drop_at (take text w) (take k (drop text w) ++ part ++ behind) text (length-take-le text w (omega arith))
+      ∙ rw (q, d)
 
 -- the nodes in front, and behind them the tokens as they are left
 module _ (w : List ℕ) {front : List ℕ} (text : ℕ) (behind : List ℕ) (e : front ≡ take text w) (l : text ≤ length w) where
@@ -51,6 +91,10 @@ module _ (w : List ℕ) {front : List ℕ} (text : ℕ) (behind : List ℕ) (e :
 
   pub drop_left : drop text (front ++ behind) ≡ behind
   drop_left = drop_at front behind text front_long
+
+  -- what is read behind the nodes
+  pub part_left : {i k : ℕ} → i ≡ k → take i (drop text (front ++ behind)) ≡ take k behind
+  part_left q = ap (take _) drop_left ∙ ap (λ (n : ℕ). take n behind) q
 
   -- n nodes of those in front
   module _ {nodes : List ℕ} (n : ℕ) (fits : node_size * n ≤ text) (is : nodes ≡ take (node_size * n) front) where

@@ -2,7 +2,7 @@
 use Prim.Native.Nat.{ℕ, zero, suc, ◌+◌, ◌-◌, ◌*◌, ◌≤◌, ◌<◌}
 use Rattle.std.specs.Prelude.{◌≡◌, refl, List, [], ◌∷◌, ◌++◌, length, take, drop}
 use Rattle.std.proofs.Math.Path.{sym}
-use Rattle.std.proofs.Common.{ap, ◌∙◌, append_assoc, append-nil, drop_of_length-le, take_all}
+use Rattle.std.proofs.Common.{ap, ◌∙◌, append_assoc, append-nil, drop_of_length-le, take_all, take_at, drop_at}
 use Rattle.std.proofs.Math.Seq.{drop-nil}
 use native.Mathlib.Omega.{arith}
 use Rattle.base.specs.Bytes.{le_bytes}
@@ -73,6 +73,15 @@ module _ (nodes : List ℕ) (n from : ℕ) (out : List ℕ) (at : ℕ) where
           rest = h.rest ∙ ap (λ (u : List Token). h.given ++ u) (leaves_leaf nodes n i e l is z) ∙ sym (append_assoc h.given (k ∷ []) (leaves_from nodes n (i + 1)));
         }
 
+    -- as far as token `end`
+    pub gave_full : (end : ℕ) → j ≡ end → Gave nodes n from out at end i j out'
+    gave_full end e =
+        let v : List Token = leaves_from nodes n i in
+        let c : length h.given ≡ end - at = omega (arith, h.added.count) in
+        let t : take (end - at) (leaves_from nodes n from) ≡ h.given = rw h.rest (take_at h.given v (end - at) c) in
+        let d : drop (end - at) (leaves_from nodes n from) ≡ v = rw h.rest (drop_at h.given v (end - at) c) in
+        record { added = rw t h.added; rest = sym d }
+
     -- or all of them
     pub gave_all : (end : ℕ) → n ≤ i → j ≤ end → Gave nodes n from out at end i j out'
     gave_all end l m =
@@ -91,6 +100,9 @@ pub record Skipped (nodes : List ℕ) (n from k i left : ℕ) : Type 0 where
   pub is : drop left (leaves_from nodes n i) ≡ drop k (leaves_from nodes n from)
 
 module _ (nodes : List ℕ) (n from k : ℕ) where
+  pub skipped_none : Skipped nodes n from k from k
+  skipped_none = record { is = refl }
+
   module _ (i left : ℕ) (h : Skipped nodes n from k i left) where
     pub skipped_inner : (e : Node) → i < n → e ≡ node_at nodes i → (e.production ≡ 0 → ⊥) → Skipped nodes n from k (i + 1) left
     skipped_inner e l is z = record { is = rw (leaves_inner nodes n i e l is z) at h.is }
@@ -101,6 +113,11 @@ module _ (nodes : List ℕ) (n from k : ℕ) where
         let u : List Token = record { kind = e.symbol; tag = e.tag } ∷ leaves_from nodes n (i + 1) in
         record { is = ap (λ (x : ℕ). drop x u) q ∙ rw (leaves_leaf nodes n i e l is z) at h.is }
 
+    -- k leaves
+    pub skipped_full : left ≡ 0 → Skipped nodes n from k i 0
+    skipped_full e = rw e at h
+
+    -- or all of them
     pub skipped_all : n ≤ i → Skipped nodes n from k i 0
     skipped_all l = let z = leaves_none nodes n i l in record { is = z ∙ sym (drop-nil left) ∙ rw z at h.is }
 
