@@ -17,7 +17,10 @@ pub returns : goal.returns
 returns c =
     elim c.if-node-eq0.branch [
       | then-node-eq0 w ↦ elim c.if-k-eq0.branch [
-        | then-k-eq0 v ↦ lay_leaf _ _ _ _ _ w.if-node-eq0.true (search rules) (rw (v.area-is, v.first-is, w.k-is) at c.put_slot.ensures)
+        | then-k-eq0 v ↦
+            -- the tag is left to arithmetic, so that what is refused is a wrong value and not another way to say the same
+            let tag : c.if-node-eq0.k.1 ≡ c.args.node.tag = omega (arith, ap (λ (p : ℕ × ℕ). p.1) w.k-is) in
+            lay_leaf _ _ _ _ _ w.if-node-eq0.true (search rules) (rw (v.area-is, v.first-is, tag) at c.put_slot.ensures)
         | else-k-eq0 v ↦ absurd (v.if-k-eq0.false (ap (λ (p : ℕ × ℕ). p.0) w.k-is))
       ]
       | else-node-eq0 w ↦
